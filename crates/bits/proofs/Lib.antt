@@ -1,0 +1,4 @@
+pub mod Fields
+pub mod Masks
+pub mod Picks
+pub mod TwosComplement

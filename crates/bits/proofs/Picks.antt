@@ -1,0 +1,10 @@
+-- An answer that a test picks, from what the test's outcome is known to be. Assumes nothing.
+use mathlib.Core.Path.{_≡_, sym, ap, _∙_}
+use mathlib.Core.Bool.{Bool, true, false, cond}
+
+module _ {A : Type 0} {x : A} {t : Bool} where
+  pub if-true : (a b : A) → t ≡ true → x ≡ a → x ≡ cond t a b
+  if-true a b e q = q ∙ sym (ap (λ (u : Bool). cond u a b) e)
+
+  pub if-false : (a b : A) → t ≡ false → x ≡ b → x ≡ cond t a b
+  if-false a b e q = q ∙ sym (ap (λ (u : Bool). cond u a b) e)

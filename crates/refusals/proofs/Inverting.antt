@@ -1,0 +1,11 @@
+-- A writer that never refuses: what it takes to invert a reader, either way. Assumes nothing.
+use mathlib.Core.Path.{_≡_, ap, _∙_}
+use Rattle.refusals.specs.Answers.{Answer, accepted}
+use Rattle.refusals.specs.Inverses.{WritesBack, ReadsBack, always}
+
+module _ {A W : Type 0} (read : W → Answer A) (write : A → W) where
+  pub writes-always : (Word : W → Type 0) → ((w : W) (a : A) → Word w → read w ≡ accepted a → write a ≡ w) → WritesBack Word read (always write)
+  writes-always Word back w a h q = ap accepted (back w a h q)
+
+  pub reads-always : (Value : A → Type 0) → ((a : A) → Value a → read (write a) ≡ accepted a) → ReadsBack Value (always write) read
+  reads-always Value back a w h q = let e : w ≡ write a = cc in ap read e ∙ back a h

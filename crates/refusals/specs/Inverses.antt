@@ -1,0 +1,15 @@
+-- What it means that a reader and a writer invert each other.
+use mathlib.Core.Path.{_≡_}
+use Rattle.refusals.specs.Answers.{Answer, accepted}
+
+-- what the reader accepts of some words, the writer writes back
+abbrev pub WritesBack : {A W : Type 0} → (W → Type 0) → (W → Answer A) → (A → Answer W) → Type 0
+WritesBack {A} {W} Word read write = (w : W) (a : A) → Word w → read w ≡ accepted a → write a ≡ accepted w
+
+-- what the writer gives for some values, the reader reads back
+abbrev pub ReadsBack : {A W : Type 0} → (A → Type 0) → (A → Answer W) → (W → Answer A) → Type 0
+ReadsBack {A} {W} Value write read = (a : A) (w : W) → Value a → write a ≡ accepted w → read w ≡ accepted a
+
+-- a writer that never refuses
+abbrev pub always : {A W : Type 0} → (A → W) → A → Answer W
+always write a = accepted (write a)
