@@ -1,0 +1,42 @@
+-- `ErrorCode::try_from_i32` meets its contract: each arm has the number of the code that it gives, and the last arm none of them. Assumes nothing.
+use mathlib.Core.Path.{_≡_, refl, sym, ap, _∙_}
+use Prim.Native.Nat.{ℕ, _-_, _^_}
+use lib.IntN.{ℤ, pos, negsuc}
+use mir.Syntax.{w32}
+use mir.Val.{ofZ}
+use mir.Facts.{toZ-ofZ}
+use Rattle.refusals.specs.Answers.{refused}
+use Rattle.codes.specs.Codes.{codeSize, errorCodes, readErrorCode}
+use Rattle.refusals.proofs.Choosing.{NoneOf, none-chosen}
+use Rattle.bits.proofs.TwosComplement.{number-is}
+use Rattle.codes.proofs.ErrorCode.try_from_i32.Statement.{statement}
+use Rattle.codes.proofs.ErrorCode.try_from_i32.Tie as tie
+
+-- the bits that are tested are 2 ^ 32 less how far the number is below zero
+bits-of : ℕ → ℕ
+bits-of n = 2 ^ 32 - n
+
+unknown : (z : ℤ) → NoneOf codeSize (refused 9 z) bits-of (ofZ w32 z) Unit errorCodes → refused 9 z ≡ readErrorCode z
+unfolding readErrorCode bits-of
+unknown (pos n) none = refl
+unknown (negsuc n) none = none-chosen codeSize (refused 9 (negsuc n)) bits-of _ errorCodes none
+
+returns-10 : tie.Need-returns-10
+unfolding readErrorCode bits-of
+returns-10 c = ap (refused 9) (toZ-ofZ (c .before .fits .value)) ∙ unknown (c .before .args .value) (c .match .rest)
+
+pub try-from-i32-spec : {M : Type 1} → statement M
+unfolding readErrorCode
+try-from-i32-spec =
+    tie.close
+    (tie.spec
+    (λ c. sym (ap readErrorCode (number-is w32 (c .before .fits .value) (c .match .keys1))))
+    (λ c. sym (ap readErrorCode (number-is w32 (c .before .fits .value) (c .match .keys2))))
+    (λ c. sym (ap readErrorCode (number-is w32 (c .before .fits .value) (c .match .keys3))))
+    (λ c. sym (ap readErrorCode (number-is w32 (c .before .fits .value) (c .match .keys4))))
+    (λ c. sym (ap readErrorCode (number-is w32 (c .before .fits .value) (c .match .keys5))))
+    (λ c. sym (ap readErrorCode (number-is w32 (c .before .fits .value) (c .match .keys6))))
+    (λ c. sym (ap readErrorCode (number-is w32 (c .before .fits .value) (c .match .keys7))))
+    (λ c. sym (ap readErrorCode (number-is w32 (c .before .fits .value) (c .match .keys8))))
+    (λ c. sym (ap readErrorCode (number-is w32 (c .before .fits .value) (c .match .keys9))))
+    returns-10)

@@ -1,0 +1,130 @@
+ghost use mathlib.Core.Path.{_≡_};
+ghost use Rattle.codes.specs.Codes.{errorCodeOf, codeNumber, errorCodeAnswer, readErrorCode, readErrorCode64, returnNumber, returnCodeAnswer, readReturnCode};
+ghost use Rattle.bits.specs.Signs.{signed, wordOf};
+use bits::signs;
+use refusals::Error;
+
+// DEN0022 5.2.2.
+pub enum ErrorCode {
+    NotSupported,
+    InvalidParameters,
+    Denied,
+    AlreadyOn,
+    OnPending,
+    InternalFailure,
+    NotPresent,
+    Disabled,
+    InvalidAddress,
+}
+
+pub enum ErrorCodeResult {
+    Ok(ErrorCode),
+    Err(Error),
+}
+
+impl ErrorCode {
+    pub fn from_error(value: Error) -> Self
+        ensures { λ r. ⌜ r ≡ errorCodeOf value ⌝ }
+    {
+        match value {
+            Error::UnrecognisedFunctionId(_) => Self::NotSupported,
+            _ => Self::InvalidParameters,
+        }
+    }
+
+    pub fn try_from_i32(value: i32) -> ErrorCodeResult
+        ensures { λ r. ⌜ errorCodeAnswer r ≡ readErrorCode value ⌝ }
+    {
+        match value {
+            -1 => ErrorCodeResult::Ok(Self::NotSupported),
+            -2 => ErrorCodeResult::Ok(Self::InvalidParameters),
+            -3 => ErrorCodeResult::Ok(Self::Denied),
+            -4 => ErrorCodeResult::Ok(Self::AlreadyOn),
+            -5 => ErrorCodeResult::Ok(Self::OnPending),
+            -6 => ErrorCodeResult::Ok(Self::InternalFailure),
+            -7 => ErrorCodeResult::Ok(Self::NotPresent),
+            -8 => ErrorCodeResult::Ok(Self::Disabled),
+            -9 => ErrorCodeResult::Ok(Self::InvalidAddress),
+            _ => ErrorCodeResult::Err(Error::UnrecognisedErrorCode(value)),
+        }
+    }
+
+    pub fn try_from_u32(value: u32) -> ErrorCodeResult
+        ensures { λ r. ⌜ errorCodeAnswer r ≡ readErrorCode (signed 32 value) ⌝ }
+    {
+        Self::try_from_i32(signs::signed_32(value))
+    }
+
+    pub fn try_from_u64(value: u64) -> ErrorCodeResult
+        ensures { λ r. ⌜ errorCodeAnswer r ≡ readErrorCode64 (signed 64 value) ⌝ }
+    {
+        if value < 0x8000_0000 {
+            return Self::try_from_u32(value as u32);
+        }
+        if 0xffff_ffff_8000_0000 <= value {
+            return Self::try_from_u32((value - 0xffff_ffff_0000_0000) as u32);
+        }
+        ErrorCodeResult::Err(Error::OverflowingErrorCode(signs::signed_64(value)))
+    }
+
+    pub fn to_i32(self) -> i32
+        ensures { λ r. ⌜ r ≡ codeNumber self ⌝ }
+    {
+        match self {
+            Self::NotSupported => -1,
+            Self::InvalidParameters => -2,
+            Self::Denied => -3,
+            Self::AlreadyOn => -4,
+            Self::OnPending => -5,
+            Self::InternalFailure => -6,
+            Self::NotPresent => -7,
+            Self::Disabled => -8,
+            Self::InvalidAddress => -9,
+        }
+    }
+
+    pub fn to_u32(self) -> u32
+        ensures { λ r. ⌜ r ≡ wordOf 32 (codeNumber self) ⌝ }
+    {
+        signs::word_32(self.to_i32())
+    }
+
+    pub fn to_u64(self) -> u64
+        ensures { λ r. ⌜ r ≡ wordOf 64 (codeNumber self) ⌝ }
+    {
+        signs::word_64(self.to_i32() as i64)
+    }
+}
+
+pub enum ReturnCode {
+    Success,
+    Error(ErrorCode),
+}
+
+pub enum ReturnCodeResult {
+    Ok(ReturnCode),
+    Err(Error),
+}
+
+impl ReturnCode {
+    pub fn try_from_i32(value: i32) -> ReturnCodeResult
+        ensures { λ r. ⌜ returnCodeAnswer r ≡ readReturnCode value ⌝ }
+    {
+        if value == 0 {
+            return ReturnCodeResult::Ok(Self::Success);
+        }
+        match ErrorCode::try_from_i32(value) {
+            ErrorCodeResult::Ok(error_code) => ReturnCodeResult::Ok(Self::Error(error_code)),
+            ErrorCodeResult::Err(error) => ReturnCodeResult::Err(error),
+        }
+    }
+
+    pub fn to_i32(self) -> i32
+        ensures { λ r. ⌜ r ≡ returnNumber self ⌝ }
+    {
+        match self {
+            Self::Success => 0,
+            Self::Error(error_code) => error_code.to_i32(),
+        }
+    }
+}

@@ -1,0 +1,3 @@
+pub mod CallTable
+pub mod FunctionIds
+pub mod Inverse

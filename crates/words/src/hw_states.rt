@@ -1,0 +1,38 @@
+ghost use mathlib.Core.Path.{_≡_};
+ghost use Rattle.words.specs.HwStates.{readHwState, hwStateAnswer, hwStateNumber};
+use refusals::Error;
+
+// NODE_HW_STATE return value, DEN0022 5.1.18.
+pub enum HwState {
+    On,
+    Off,
+    Standby,
+}
+
+pub enum HwStateResult {
+    Ok(HwState),
+    Err(Error),
+}
+
+impl HwState {
+    pub fn try_from_u32(value: u32) -> HwStateResult
+        ensures { λ r. ⌜ hwStateAnswer r ≡ readHwState value ⌝ }
+    {
+        match value {
+            0 => HwStateResult::Ok(Self::On),
+            1 => HwStateResult::Ok(Self::Off),
+            2 => HwStateResult::Ok(Self::Standby),
+            _ => HwStateResult::Err(Error::UnrecognisedHwState(value)),
+        }
+    }
+
+    pub fn to_u32(self) -> u32
+        ensures { λ r. ⌜ r ≡ hwStateNumber self ⌝ }
+    {
+        match self {
+            Self::On => 0,
+            Self::Off => 1,
+            Self::Standby => 2,
+        }
+    }
+}

@@ -1,0 +1,43 @@
+ghost use mathlib.Core.Path.{_≡_};
+ghost use Rattle.words.specs.PsciFeatures.{readFeature, featureAnswer, featureNumber};
+use function_ids::FunctionId;
+use function_ids::FunctionIdResult;
+use refusals::Error;
+
+// PSCI_FEATURES psci_func_id, DEN0022 5.1.15.
+pub enum PsciFeature {
+    PsciFunction(FunctionId),
+    SmcccVersion,
+}
+
+pub enum PsciFeatureResult {
+    Ok(PsciFeature),
+    Err(Error),
+}
+
+impl PsciFeature {
+    const SMCCC_VERSION: u32 = 0x8000_0000;
+
+    pub fn try_from_u32(value: u32) -> PsciFeatureResult
+        ensures { λ r. ⌜ featureAnswer r ≡ readFeature value ⌝ }
+    {
+        if value == Self::SMCCC_VERSION {
+            return PsciFeatureResult::Ok(Self::SmcccVersion);
+        }
+        match FunctionId::try_from_u32(value) {
+            FunctionIdResult::Ok(function_id) => {
+                PsciFeatureResult::Ok(Self::PsciFunction(function_id))
+            }
+            FunctionIdResult::Err(error) => PsciFeatureResult::Err(error),
+        }
+    }
+
+    pub fn to_u32(self) -> u32
+        ensures { λ r. ⌜ r ≡ featureNumber self ⌝ }
+    {
+        match self {
+            Self::PsciFunction(function_id) => function_id.to_u32(),
+            Self::SmcccVersion => Self::SMCCC_VERSION,
+        }
+    }
+}

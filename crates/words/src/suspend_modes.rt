@@ -1,0 +1,35 @@
+ghost use mathlib.Core.Path.{_≡_};
+ghost use Rattle.words.specs.SuspendModes.{readSuspendMode, suspendModeAnswer, suspendModeNumber};
+use refusals::Error;
+
+// PSCI_SET_SUSPEND_MODE mode, DEN0022 5.1.20.
+pub enum SuspendMode {
+    PlatformCoordinated,
+    OsInitiated,
+}
+
+pub enum SuspendModeResult {
+    Ok(SuspendMode),
+    Err(Error),
+}
+
+impl SuspendMode {
+    pub fn try_from_u32(value: u32) -> SuspendModeResult
+        ensures { λ r. ⌜ suspendModeAnswer r ≡ readSuspendMode value ⌝ }
+    {
+        match value {
+            0 => SuspendModeResult::Ok(Self::PlatformCoordinated),
+            1 => SuspendModeResult::Ok(Self::OsInitiated),
+            _ => SuspendModeResult::Err(Error::UnrecognisedSuspendMode(value)),
+        }
+    }
+
+    pub fn to_u32(self) -> u32
+        ensures { λ r. ⌜ r ≡ suspendModeNumber self ⌝ }
+    {
+        match self {
+            Self::PlatformCoordinated => 0,
+            Self::OsInitiated => 1,
+        }
+    }
+}
