@@ -1,0 +1,14 @@
+-- `calls::migrate` meets its contract.
+-- Assumes nothing.
+use borrow.Author.Needs.{needs}
+use Rattle.calls.proofs.migrate.Statement.{statement}
+use Rattle.calls.proofs.migrate.Tie as tie
+
+pub migrate-spec : {M : Type 1} → statement M
+migrate-spec =
+    tie.close
+    (tie.spec
+    (λ c. search needs)
+    (λ c. search needs)
+    (λ c. simp (c .before .mpidr .given .1))
+    (λ c. simp (c .before .mpidr2 .given .1)))

@@ -1,0 +1,219 @@
+// A call from its fields as they were read: the first refused field is the answer.
+ghost use mathlib.Core.Path.{_≡_};
+ghost use mathlib.Core.Bool.{not};
+ghost use lib.Dec.{eqb};
+ghost use Rattle.refusals.specs.Answers.{accepted, through};
+ghost use Rattle.words.specs.Mpidrs.{mpidrAnswer};
+ghost use Rattle.words.specs.PowerStates.{powerStateAnswer};
+ghost use Rattle.words.specs.PsciFeatures.{featureAnswer};
+ghost use Rattle.words.specs.ResetTypes.{resetTypeAnswer};
+ghost use Rattle.words.specs.SuspendModes.{suspendModeAnswer};
+ghost use Rattle.words.specs.SystemOff2Types.{systemOff2Answer};
+ghost use Rattle.function.specs.Functions.{functionAnswer};
+ghost use Rattle.function.specs.declared.Function.the-variants.{CpuSuspend, CpuOn, Migrate, MigrateInfoUpCpu, SystemOff2, SystemReset2, MemProtect, MemProtectCheckRange, Features, CpuDefaultSuspend, NodeHwState, SystemSuspend, SetSuspendMode, StatResidency, StatCount};
+ghost use Rattle.calls.specs.Calls.{affinityInfo, ofCoreState};
+use function::Function;
+use function::FunctionResult;
+use refusals::Error;
+use words::Cookie;
+use words::EntryPoint;
+use words::MemProtectRange;
+use words::MpidrResult;
+use words::PowerStateResult;
+use words::PsciFeatureResult;
+use words::ResetTypeResult;
+use words::SuspendModeResult;
+use words::SystemOff2TypeResult;
+
+pub fn entry32(entry_point_address: u32, context_id: u32) -> EntryPoint
+    ensures { λ r. ⌜ r ≡ EntryPoint.Entry32 «entry_point_address» «context_id» ⌝ }
+{
+    EntryPoint::Entry32 {
+        entry_point_address,
+        context_id,
+    }
+}
+
+pub fn entry64(entry_point_address: u64, context_id: u64) -> EntryPoint
+    ensures { λ r. ⌜ r ≡ EntryPoint.Entry64 «entry_point_address» «context_id» ⌝ }
+{
+    EntryPoint::Entry64 {
+        entry_point_address,
+        context_id,
+    }
+}
+
+pub fn cpu_suspend(state: PowerStateResult, entry: EntryPoint) -> FunctionResult
+    ensures { λ r. ⌜ functionAnswer r ≡ through (λ s. CpuSuspend s entry) (powerStateAnswer state) ⌝ }
+{
+    match state {
+        PowerStateResult::Ok(state) => FunctionResult::Ok(Function::CpuSuspend { state, entry }),
+        PowerStateResult::Err(error) => FunctionResult::Err(error),
+    }
+}
+
+pub fn cpu_on(mpidr: MpidrResult, entry: EntryPoint) -> FunctionResult
+    ensures { λ r. ⌜ functionAnswer r ≡ through (λ m. CpuOn m entry) (mpidrAnswer mpidr) ⌝ }
+{
+    match mpidr {
+        MpidrResult::Ok(target_cpu) => FunctionResult::Ok(Function::CpuOn { target_cpu, entry }),
+        MpidrResult::Err(error) => FunctionResult::Err(error),
+    }
+}
+
+// The level is checked before the MPIDR.
+pub fn affinity_info(most: u32, lowest_affinity_level: u32, mpidr: MpidrResult) -> FunctionResult
+    ensures { λ r. ⌜ functionAnswer r ≡ affinityInfo most «lowest_affinity_level» (mpidrAnswer mpidr) ⌝ }
+{
+    if lowest_affinity_level > most {
+        return FunctionResult::Err(Error::InvalidLowerAffinityLevel(lowest_affinity_level));
+    }
+    match mpidr {
+        MpidrResult::Ok(mpidr) => FunctionResult::Ok(Function::AffinityInfo {
+            mpidr,
+            lowest_affinity_level,
+        }),
+        MpidrResult::Err(error) => FunctionResult::Err(error),
+    }
+}
+
+pub fn migrate(mpidr: MpidrResult) -> FunctionResult
+    ensures { λ r. ⌜ functionAnswer r ≡ through Migrate (mpidrAnswer mpidr) ⌝ }
+{
+    match mpidr {
+        MpidrResult::Ok(target_affinity) => FunctionResult::Ok(Function::Migrate {
+            target_affinity,
+        }),
+        MpidrResult::Err(error) => FunctionResult::Err(error),
+    }
+}
+
+pub fn migrate_info_up_cpu(is_32bit: bool) -> FunctionResult
+    ensures { λ r. ⌜ functionAnswer r ≡ accepted (MigrateInfoUpCpu «is_32bit») ⌝ }
+{
+    FunctionResult::Ok(Function::MigrateInfoUpCpu { is_32bit })
+}
+
+pub fn features(feature: PsciFeatureResult) -> FunctionResult
+    ensures { λ r. ⌜ functionAnswer r ≡ through Features (featureAnswer feature) ⌝ }
+{
+    match feature {
+        PsciFeatureResult::Ok(psci_func_id) => FunctionResult::Ok(Function::Features {
+            psci_func_id,
+        }),
+        PsciFeatureResult::Err(error) => FunctionResult::Err(error),
+    }
+}
+
+pub fn cpu_default_suspend(entry: EntryPoint) -> FunctionResult
+    ensures { λ r. ⌜ functionAnswer r ≡ accepted (CpuDefaultSuspend entry) ⌝ }
+{
+    FunctionResult::Ok(Function::CpuDefaultSuspend { entry })
+}
+
+pub fn node_hw_state(mpidr: MpidrResult, power_level: u32) -> FunctionResult
+    ensures { λ r. ⌜ functionAnswer r ≡ through (λ m. NodeHwState m «power_level») (mpidrAnswer mpidr) ⌝ }
+{
+    match mpidr {
+        MpidrResult::Ok(target_cpu) => FunctionResult::Ok(Function::NodeHwState {
+            target_cpu,
+            power_level,
+        }),
+        MpidrResult::Err(error) => FunctionResult::Err(error),
+    }
+}
+
+pub fn system_suspend(entry: EntryPoint) -> FunctionResult
+    ensures { λ r. ⌜ functionAnswer r ≡ accepted (SystemSuspend entry) ⌝ }
+{
+    FunctionResult::Ok(Function::SystemSuspend { entry })
+}
+
+pub fn set_suspend_mode(mode: SuspendModeResult) -> FunctionResult
+    ensures { λ r. ⌜ functionAnswer r ≡ through SetSuspendMode (suspendModeAnswer mode) ⌝ }
+{
+    match mode {
+        SuspendModeResult::Ok(mode) => FunctionResult::Ok(Function::SetSuspendMode { mode }),
+        SuspendModeResult::Err(error) => FunctionResult::Err(error),
+    }
+}
+
+pub fn stat_residency(mpidr: MpidrResult, state: PowerStateResult) -> FunctionResult
+    ensures { λ r. ⌜ functionAnswer r ≡ ofCoreState StatResidency (mpidrAnswer mpidr) (powerStateAnswer state) ⌝ }
+{
+    match mpidr {
+        MpidrResult::Ok(target_cpu) => match state {
+            PowerStateResult::Ok(power_state) => FunctionResult::Ok(Function::StatResidency {
+                target_cpu,
+                power_state,
+            }),
+            PowerStateResult::Err(error) => FunctionResult::Err(error),
+        },
+        MpidrResult::Err(error) => FunctionResult::Err(error),
+    }
+}
+
+pub fn stat_count(mpidr: MpidrResult, state: PowerStateResult) -> FunctionResult
+    ensures { λ r. ⌜ functionAnswer r ≡ ofCoreState StatCount (mpidrAnswer mpidr) (powerStateAnswer state) ⌝ }
+{
+    match mpidr {
+        MpidrResult::Ok(target_cpu) => match state {
+            PowerStateResult::Ok(power_state) => FunctionResult::Ok(Function::StatCount {
+                target_cpu,
+                power_state,
+            }),
+            PowerStateResult::Err(error) => FunctionResult::Err(error),
+        },
+        MpidrResult::Err(error) => FunctionResult::Err(error),
+    }
+}
+
+pub fn system_reset2(reset_type: ResetTypeResult, cookie: Cookie) -> FunctionResult
+    ensures { λ r. ⌜ functionAnswer r ≡ through (λ t. SystemReset2 t cookie) (resetTypeAnswer «reset_type») ⌝ }
+{
+    match reset_type {
+        ResetTypeResult::Ok(reset_type) => FunctionResult::Ok(Function::SystemReset2 {
+            reset_type,
+            cookie,
+        }),
+        ResetTypeResult::Err(error) => FunctionResult::Err(error),
+    }
+}
+
+pub fn mem_protect(r1: u64) -> FunctionResult
+    ensures { λ r. ⌜ functionAnswer r ≡ accepted (MemProtect (not (eqb r1 0))) ⌝ }
+{
+    if r1 == 0 {
+        FunctionResult::Ok(Function::MemProtect { enabled: false })
+    } else {
+        FunctionResult::Ok(Function::MemProtect { enabled: true })
+    }
+}
+
+pub fn range32(base: u32, length: u32) -> FunctionResult
+    ensures { λ r. ⌜ functionAnswer r ≡ accepted (MemProtectCheckRange (MemProtectRange.Range32 base length)) ⌝ }
+{
+    FunctionResult::Ok(Function::MemProtectCheckRange {
+        range: MemProtectRange::Range32 { base, length },
+    })
+}
+
+pub fn range64(base: u64, length: u64) -> FunctionResult
+    ensures { λ r. ⌜ functionAnswer r ≡ accepted (MemProtectCheckRange (MemProtectRange.Range64 base length)) ⌝ }
+{
+    FunctionResult::Ok(Function::MemProtectCheckRange {
+        range: MemProtectRange::Range64 { base, length },
+    })
+}
+
+pub fn system_off2(off_type: SystemOff2TypeResult, cookie: Cookie) -> FunctionResult
+    ensures { λ r. ⌜ functionAnswer r ≡ through (λ t. SystemOff2 t cookie) (systemOff2Answer «off_type») ⌝ }
+{
+    match off_type {
+        SystemOff2TypeResult::Ok(off_type) => FunctionResult::Ok(Function::SystemOff2 {
+            off_type,
+            cookie,
+        }),
+        SystemOff2TypeResult::Err(error) => FunctionResult::Err(error),
+    }
+}

@@ -1,0 +1,71 @@
+-- Document 01, "The four written words": the fields stand in their registers, all other bits are zero.
+use mathlib.Core.Bool.{Bool, true, false}
+use mathlib.Core.List.{List, [], _∷_}
+use Prim.Native.Nat.{ℕ}
+use Rattle.refusals.specs.Answers.{Answer, accepted, through}
+use Rattle.refusals.specs.Errors.{refusal}
+use Rattle.words.specs.EntryPoints.{entryAddress, entryContext}
+use Rattle.words.specs.Mpidrs.{writeMpidr64}
+use Rattle.words.specs.PowerStates.{writePowerState}
+use Rattle.words.specs.PsciFeatures.{featureNumber}
+use Rattle.words.specs.ResetTypes.{writeResetType}
+use Rattle.words.specs.SuspendModes.{suspendModeNumber}
+use Rattle.words.specs.SystemOff2Types.{systemOff2Number}
+use Rattle.words.specs.declared.cookies.Cookie.{Cookie}
+use Rattle.words.specs.declared.cookies.Cookie.the-variants.{Cookie32, Cookie64}
+use Rattle.words.specs.declared.mem_protect_ranges.MemProtectRange.{MemProtectRange}
+use Rattle.words.specs.declared.mem_protect_ranges.MemProtectRange.the-variants.{Range32, Range64}
+use Rattle.function.specs.declared.Function.{Function}
+use Rattle.function.specs.declared.Function.the-variants.{Version, CpuSuspend, CpuOff, CpuOn, AffinityInfo, Migrate, MigrateInfoType, MigrateInfoUpCpu, SystemOff, SystemOff2, SystemReset, SystemReset2, MemProtect, MemProtectCheckRange, Features, CpuFreeze, CpuDefaultSuspend, NodeHwState, SystemSuspend, SetSuspendMode, StatResidency, StatCount}
+use Rattle.encode.specs.declared.arguments.Arguments.{Arguments}
+use Rattle.encode.specs.declared.arguments.ArgumentsResult.{ArgumentsResult}
+use Rattle.encode.specs.declared.arguments.ArgumentsResult.the-variants.{Ok, Err}
+
+abbrev pub argumentsAnswer : ArgumentsResult → Answer (List ℕ)
+argumentsAnswer (Ok a) = accepted (a .r1 ∷ a .r2 ∷ a .r3 ∷ [])
+argumentsAnswer (Err e) = refusal e
+
+abbrev pub cookieWord : Cookie → ℕ
+cookieWord (Cookie32 word) = word
+cookieWord (Cookie64 word) = word
+
+abbrev pub baseWord : MemProtectRange → ℕ
+baseWord (Range32 base extent) = base
+baseWord (Range64 base extent) = base
+
+abbrev pub lengthWord : MemProtectRange → ℕ
+lengthWord (Range32 base extent) = extent
+lengthWord (Range64 base extent) = extent
+
+-- memory protect writes 1 or 0
+abbrev pub flagWord : Bool → ℕ
+flagWord true = 1
+flagWord false = 0
+
+abbrev three : ℕ → ℕ → ℕ → Answer (List ℕ)
+three x y z = accepted (x ∷ y ∷ z ∷ [])
+
+-- words 1 to 3 of a call. A level is written unchecked; a state ID above 0x0fffffff is refusal 15, of its writer
+unfoldable pub argumentsOf : Function → Answer (List ℕ)
+argumentsOf Version = three 0 0 0
+argumentsOf (CpuSuspend state entry) = through (λ w. w ∷ entryAddress entry ∷ entryContext entry ∷ []) (writePowerState state)
+argumentsOf CpuOff = three 0 0 0
+argumentsOf (CpuOn mpidr entry) = three (writeMpidr64 mpidr) (entryAddress entry) (entryContext entry)
+argumentsOf (AffinityInfo mpidr level) = three (writeMpidr64 mpidr) level 0
+argumentsOf (Migrate mpidr) = three (writeMpidr64 mpidr) 0 0
+argumentsOf MigrateInfoType = three 0 0 0
+argumentsOf (MigrateInfoUpCpu is32bit) = three 0 0 0
+argumentsOf SystemOff = three 0 0 0
+argumentsOf (SystemOff2 offType cookie) = three (systemOff2Number offType) (cookieWord cookie) 0
+argumentsOf SystemReset = three 0 0 0
+argumentsOf (SystemReset2 resetType cookie) = three (writeResetType resetType) (cookieWord cookie) 0
+argumentsOf (MemProtect enabled) = three (flagWord enabled) 0 0
+argumentsOf (MemProtectCheckRange range) = three (baseWord range) (lengthWord range) 0
+argumentsOf (Features feature) = three (featureNumber feature) 0 0
+argumentsOf CpuFreeze = three 0 0 0
+argumentsOf (CpuDefaultSuspend entry) = three (entryAddress entry) (entryContext entry) 0
+argumentsOf (NodeHwState mpidr level) = three (writeMpidr64 mpidr) level 0
+argumentsOf (SystemSuspend entry) = three (entryAddress entry) (entryContext entry) 0
+argumentsOf (SetSuspendMode mode) = three (suspendModeNumber mode) 0 0
+argumentsOf (StatResidency mpidr state) = through (λ w. writeMpidr64 mpidr ∷ w ∷ 0 ∷ []) (writePowerState state)
+argumentsOf (StatCount mpidr state) = through (λ w. writeMpidr64 mpidr ∷ w ∷ 0 ∷ []) (writePowerState state)

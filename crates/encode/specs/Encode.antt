@@ -1,0 +1,34 @@
+-- Document 01, "The four written words" and "What is turned back": encoding, for every typed call and every lent run.
+use mathlib.Core.Bool.{cond}
+use mathlib.Core.List.{List, [], _∷_}
+use Prim.Native.Nat.{ℕ}
+use lib.Dec.{eqb}
+use lib.IntN.{pos}
+use lib.ListN.{length}
+use Rattle.refusals.specs.Answers.{Answer, accepted, refused, through, andThen}
+use Rattle.refusals.specs.Errors.{refusal}
+use Rattle.function_ids.specs.FunctionIds.{functionNumber}
+use Rattle.function_ids.specs.declared.FunctionId.{FunctionId}
+use Rattle.function.specs.Functions.{functionIdOf}
+use Rattle.function.specs.declared.Function.{Function}
+use Rattle.encode.specs.Arguments.{argumentsOf}
+use Rattle.encode.specs.declared.EncodeResult.{EncodeResult}
+use Rattle.encode.specs.declared.EncodeResult.the-variants.{Ok, Err}
+
+-- word 0 is the function number; refusal 14 is its, 15 that of a power state
+unfoldable pub wordsOf : Function → Answer (List ℕ)
+wordsOf f = andThen (functionIdOf f) (λ id. through (λ arguments. functionNumber id ∷ arguments) (argumentsOf f))
+
+-- refusal 17 first: a lent run not exactly four numbers long
+unfoldable pub encodeOf : Function → List ℕ → Answer (List ℕ)
+encodeOf f run = cond (eqb (length run) 4) (wordsOf f) (refused 17 (pos (length run)))
+
+-- what stands in a lent run afterwards: the words, or what it held
+abbrev pub left : Answer (List ℕ) → List ℕ → List ℕ
+left (accepted words) run = words
+left (refused number value) run = run
+
+-- what encoding says, of the words in the run afterwards
+abbrev pub encodeAnswer : EncodeResult → List ℕ → Answer (List ℕ)
+encodeAnswer Ok words = accepted words
+encodeAnswer (Err e) words = refusal e

@@ -1,0 +1,154 @@
+ghost use mathlib.Core.Path.{_≡_};
+ghost use mathlib.Core.List.{_∷_, []};
+ghost use Rattle.refusals.specs.Answers.{accepted, through};
+ghost use Rattle.refusals.specs.Errors.{wordAnswer};
+ghost use Rattle.encode.specs.Arguments.{argumentsAnswer, argumentsOf, cookieWord, baseWord, lengthWord, flagWord};
+use function::Function;
+use refusals::Error;
+use refusals::WordResult;
+use words::Cookie;
+use words::EntryPoint;
+use words::MemProtectRange;
+
+// Words 1 to 3 of a call.
+pub struct Arguments {
+    pub r1: u64,
+    pub r2: u64,
+    pub r3: u64,
+}
+
+pub enum ArgumentsResult {
+    Ok(Arguments),
+    Err(Error),
+}
+
+// The fields of a call in their registers; refused for a state ID that has no room.
+pub fn argument_words(function: Function) -> ArgumentsResult
+    ensures { λ r. ⌜ argumentsAnswer r ≡ argumentsOf function ⌝ }
+{
+    match function {
+        Function::Version => three(0, 0, 0),
+        Function::CpuSuspend { state, entry } => with_first(
+            state.to_u32(),
+            entry.entry_point_address(),
+            entry.context_id(),
+        ),
+        Function::CpuOff => three(0, 0, 0),
+        Function::CpuOn { target_cpu, entry } => three(
+            target_cpu.to_u64(),
+            entry.entry_point_address(),
+            entry.context_id(),
+        ),
+        Function::AffinityInfo {
+            mpidr,
+            lowest_affinity_level,
+        } => three(mpidr.to_u64(), wide(lowest_affinity_level), 0),
+        Function::Migrate { target_affinity } => three(target_affinity.to_u64(), 0, 0),
+        Function::MigrateInfoType => three(0, 0, 0),
+        Function::MigrateInfoUpCpu { .. } => three(0, 0, 0),
+        Function::SystemOff => three(0, 0, 0),
+        Function::SystemOff2 { off_type, cookie } => three(
+            wide(off_type.to_u32()),
+            cookie_word(cookie),
+            0,
+        ),
+        Function::SystemReset => three(0, 0, 0),
+        Function::SystemReset2 { reset_type, cookie } => three(
+            wide(reset_type.to_u32()),
+            cookie_word(cookie),
+            0,
+        ),
+        Function::MemProtect { enabled } => three(flag_word(enabled), 0, 0),
+        Function::MemProtectCheckRange { range } => three(base_word(range), length_word(range), 0),
+        Function::Features { psci_func_id } => three(wide(psci_func_id.to_u32()), 0, 0),
+        Function::CpuFreeze => three(0, 0, 0),
+        Function::CpuDefaultSuspend { entry } => three(
+            entry.entry_point_address(),
+            entry.context_id(),
+            0,
+        ),
+        Function::NodeHwState {
+            target_cpu,
+            power_level,
+        } => three(target_cpu.to_u64(), wide(power_level), 0),
+        Function::SystemSuspend { entry } => three(
+            entry.entry_point_address(),
+            entry.context_id(),
+            0,
+        ),
+        Function::SetSuspendMode { mode } => three(wide(mode.to_u32()), 0, 0),
+        Function::StatResidency {
+            target_cpu,
+            power_state,
+        } => with_second(target_cpu.to_u64(), power_state.to_u32()),
+        Function::StatCount {
+            target_cpu,
+            power_state,
+        } => with_second(target_cpu.to_u64(), power_state.to_u32()),
+    }
+}
+
+fn three(r1: u64, r2: u64, r3: u64) -> ArgumentsResult
+    ensures { λ r. ⌜ argumentsAnswer r ≡ accepted (r1 ∷ r2 ∷ r3 ∷ []) ⌝ }
+{
+    ArgumentsResult::Ok(Arguments { r1, r2, r3 })
+}
+
+// With a word in r1 whose writer may refuse.
+fn with_first(word: WordResult, r2: u64, r3: u64) -> ArgumentsResult
+    ensures { λ r. ⌜ argumentsAnswer r ≡ through (λ w. w ∷ r2 ∷ r3 ∷ []) (wordAnswer word) ⌝ }
+{
+    match word {
+        WordResult::Ok(r1) => three(r1 as u64, r2, r3),
+        WordResult::Err(error) => ArgumentsResult::Err(error),
+    }
+}
+
+// With a word in r2 whose writer may refuse.
+fn with_second(r1: u64, word: WordResult) -> ArgumentsResult
+    ensures { λ r. ⌜ argumentsAnswer r ≡ through (λ w. r1 ∷ w ∷ 0 ∷ []) (wordAnswer word) ⌝ }
+{
+    match word {
+        WordResult::Ok(r2) => three(r1, r2 as u64, 0),
+        WordResult::Err(error) => ArgumentsResult::Err(error),
+    }
+}
+
+fn wide(word: u32) -> u64
+    ensures { λ r. ⌜ r ≡ word ⌝ }
+{
+    word as u64
+}
+
+fn cookie_word(cookie: Cookie) -> u64
+    ensures { λ r. ⌜ r ≡ cookieWord cookie ⌝ }
+{
+    match cookie {
+        Cookie::Cookie32(value) => value as u64,
+        Cookie::Cookie64(value) => value,
+    }
+}
+
+fn base_word(range: MemProtectRange) -> u64
+    ensures { λ r. ⌜ r ≡ baseWord range ⌝ }
+{
+    match range {
+        MemProtectRange::Range32 { base, length: _ } => base as u64,
+        MemProtectRange::Range64 { base, length: _ } => base,
+    }
+}
+
+fn length_word(range: MemProtectRange) -> u64
+    ensures { λ r. ⌜ r ≡ lengthWord range ⌝ }
+{
+    match range {
+        MemProtectRange::Range32 { base: _, length } => length as u64,
+        MemProtectRange::Range64 { base: _, length } => length,
+    }
+}
+
+fn flag_word(enabled: bool) -> u64
+    ensures { λ r. ⌜ r ≡ flagWord enabled ⌝ }
+{
+    if enabled { 1 } else { 0 }
+}

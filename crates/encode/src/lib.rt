@@ -1,0 +1,63 @@
+// Encoding: a call to a lent run of four numbers.
+ghost use mathlib.Core.Path.{_≡_};
+ghost use mathlib.Core.List.{_∷_, []};
+ghost use lib.ListN.{length};
+ghost use Rattle.function_ids.specs.FunctionIds.{functionNumber};
+ghost use Rattle.encode.specs.Encode.{encodeAnswer, encodeOf, left};
+
+mod arguments;
+
+use arguments::Arguments;
+use arguments::ArgumentsResult;
+use arguments::argument_words;
+use function::Function;
+use function_ids::FunctionId;
+use function_ids::FunctionIdResult;
+use refusals::Error;
+
+// What encoding gives: the words are in the lent run, or nothing was written.
+pub enum EncodeResult {
+    Ok,
+    Err(Error),
+}
+
+// Writes the four words of a call. A refusal leaves the run as it was.
+pub fn encode(function: Function, out: &mut [u64]) -> EncodeResult
+    ensures { λ r. ⌜ (encodeAnswer r (now (out .exit)) ≡ encodeOf function (now (out .entry))) × (now (out .exit) ≡ left (encodeOf function (now (out .entry))) (now (out .entry))) ⌝ }
+{
+    let length = out.len();
+    if length != 4 {
+        return EncodeResult::Err(Error::WrongLength(length));
+    }
+    match function.function_id() {
+        FunctionIdResult::Err(error) => EncodeResult::Err(error),
+        FunctionIdResult::Ok(function_id) => match argument_words(function) {
+            ArgumentsResult::Err(error) => EncodeResult::Err(error),
+            ArgumentsResult::Ok(arguments) => {
+                store(words(function_id, arguments), out);
+                EncodeResult::Ok
+            }
+        },
+    }
+}
+
+// The function number and the arguments, as one array.
+fn words(function_id: FunctionId, arguments: Arguments) -> [u64; 4]
+    ensures { λ r. ⌜ r ≡ functionNumber «function_id» ∷ arguments .r1 ∷ arguments .r2 ∷ arguments .r3 ∷ [] ⌝ }
+{
+    let number = function_id.to_u32() as u64;
+    let r1 = arguments.r1;
+    let r2 = arguments.r2;
+    let r3 = arguments.r3;
+    [number, r1, r2, r3]
+}
+
+fn store(words: [u64; 4], out: &mut [u64])
+    requires { ⌜ length (now out) ≡ 4 ⌝ }
+    ensures { λ r. ⌜ now (out .exit) ≡ words ⌝ }
+{
+    out[0] = words[0];
+    out[1] = words[1];
+    out[2] = words[2];
+    out[3] = words[3];
+}
