@@ -1,0 +1,62 @@
+-- Demand 3 of document 01's codec: what it accepts is written as the kept words. Assumes nothing.
+use mathlib.Core.Path.{_≡_, refl, sym, ap, _∙_, subst}
+use mathlib.Core.Bool.{Bool, true, false, cond}
+use mathlib.Core.List.{List, [], _∷_}
+use Prim.Native.Nat.{ℕ, _^_, _<_}
+use native.Mathlib.Omega.{arith}
+use lib.Dec.{eqb}
+use lib.ListN.{length, getD}
+use borrow.Author.Tests.{eq-eqb}
+use Rattle.refusals.specs.Answers.{Answer, accepted}
+use Rattle.refusals.proofs.Answering.{came-then}
+use Rattle.function_ids.specs.CallTable.{lowHalf, whole, partOf, Look, nothing, value, zeroOrNot, ruleOf, lookAt, keep, numberIn, kept, valueIn}
+use Rattle.function_ids.specs.FunctionIds.{functionNumber, readFunctionId}
+use Rattle.function_ids.specs.declared.FunctionId.{FunctionId}
+use Rattle.function_ids.proofs.Table.{function-number}
+use Rattle.function.specs.declared.Function.{Function}
+use Rattle.decode.specs.Decode.{callOf, callIn, decodeOf}
+use Rattle.encode.specs.Encode.{wordsOf, encodeOf}
+use Rattle.roundtrip.specs.Codec.{Registers}
+use Rattle.roundtrip.specs.Psci.{psci, Demand3Of01}
+use Rattle.roundtrip.proofs.Demand3.{demand3}
+use Rattle.roundtrip.proofs.Rows.{Writes, Fit, row-law}
+
+small : (t : Bool) → cond t 0 1 < 2
+small true = omega arith
+small false = omega arith
+
+fit : (k : Look) (x : ℕ) → x < 2 ^ 64 → Fit k (keep k x)
+fit nothing x h = refl
+fit (value lowHalf) x h = omega arith
+fit (value whole) x h = h
+fit (zeroOrNot part) x h = small (eqb (partOf part x) 0)
+
+-- the call of a number that is a function's, at kept words
+abbrev CallAt : FunctionId → ℕ → ℕ → ℕ → ℕ → Answer Function
+CallAt f n a b c = callOf f (valueIn (ruleOf n .fields) (n ∷ a ∷ b ∷ c ∷ []))
+
+number-law : (f : FunctionId) (n a b c : ℕ) → functionNumber f ≡ n → Fit (lookAt n 1) a → Fit (lookAt n 2) b → Fit (lookAt n 3) c →
+    Writes (CallAt f n a b c) (n ∷ a ∷ b ∷ c ∷ [])
+number-law f n a b c e =
+    subst (λ (m : ℕ). Fit (lookAt m 1) a → Fit (lookAt m 2) b → Fit (lookAt m 3) c → Writes (CallAt f m a b c) (m ∷ a ∷ b ∷ c ∷ [])) e
+    (row-law f a b c)
+
+writes : (r : List ℕ) (f : Function) → Registers r → decodeOf r ≡ accepted f → wordsOf f ≡ accepted (kept r)
+unfolding decodeOf callIn
+writes r f h d =
+    let o = came-then (readFunctionId (numberIn r)) (λ id. callOf id (valueIn (ruleOf (numberIn r) .fields) (kept r))) f d in
+    subst (λ (x : Answer Function). Writes x (kept r)) (o .1 .1)
+    (number-law (o .0) (numberIn r) _ _ _ (function-number (numberIn r) (o .0) (o .1 .0)) (fit (lookAt (numberIn r) 1) (getD r 1 0) (h .fits 1))
+    (fit (lookAt (numberIn r) 2) (getD r 2 0) (h .fits 2)) (fit (lookAt (numberIn r) 3) (getD r 3 0) (h .fits 3)))
+
+-- an accepted set's call is written as the kept words, into any lent run of four
+pub written : (r : List ℕ) (f : Function) (run : List ℕ) → Registers r → length run ≡ 4 → decodeOf r ≡ accepted f → encodeOf f run ≡ accepted (kept r)
+unfolding encodeOf
+written r f run h l d = simp (eq-eqb (length run) 4 l) (writes r f h d)
+
+decodes : (r : List ℕ) → decodeOf r ≡ callIn (kept r)
+unfolding decodeOf
+decodes r = refl
+
+pub demand3-of-01 : Demand3Of01
+demand3-of-01 = demand3 psci (record { call = callIn; decodes = decodes; writes = written })

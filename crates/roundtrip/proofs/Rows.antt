@@ -1,0 +1,147 @@
+-- What each function accepts is written as its number and the values of its fields. Assumes nothing.
+use mathlib.Core.Path.{_≡_, refl, sym, ap}
+use mathlib.Core.Bool.{Bool, true, false, cond}
+use mathlib.Core.List.{List, [], _∷_}
+use Prim.Native.Nat.{ℕ, zero, suc, _^_, _<_}
+use native.Mathlib.Omega.{arith}
+use lib.Dec.{leb}
+use lib.IntN.{ℤ, pos}
+use Rattle.refusals.specs.Answers.{Answer, accepted, refused, through}
+use Rattle.refusals.specs.Inverses.{WritesBack, always}
+use Rattle.function_ids.specs.CallTable.{Form, narrow, wide, lowHalf, whole, Look, nothing, value, zeroOrNot, ruleOf, lookAt, valueIn}
+use Rattle.function_ids.specs.FunctionIds.{functionNumber}
+use Rattle.function_ids.specs.declared.FunctionId.{FunctionId}
+use Rattle.function_ids.specs.declared.FunctionId.the-variants as id
+use Rattle.words.specs.Inverses.{Word32}
+use Rattle.words.specs.Mpidrs.{readMpidr32, readMpidr64, writeMpidr64}
+use Rattle.words.specs.PowerStates.{readPowerState, writePowerState}
+use Rattle.words.specs.declared.mpidrs.Mpidr.{Mpidr}
+use Rattle.words.specs.declared.power_states.PowerState.{PowerState}
+use Rattle.words.proofs.Inverses.{word-laws}
+use Rattle.words.proofs.MpidrWords.{mpidr32-wide, mpidr64-wide}
+use Rattle.function.specs.Functions.{mpidrForm, functionIdOf}
+use Rattle.function.specs.declared.Function.{Function}
+use Rattle.function.specs.declared.Function.the-variants.{AffinityInfo}
+use Rattle.calls.specs.Calls.{affinityInfo, ofCoreState}
+use Rattle.decode.specs.Decode.{callOf}
+use Rattle.encode.specs.Arguments.{argumentsOf}
+use Rattle.encode.specs.Encode.{wordsOf}
+
+-- what is accepted is written as these words
+abbrev pub Writes : Answer Function → List ℕ → Type 0
+Writes (accepted f) words = wordsOf f ≡ accepted words
+Writes (refused number carried) words = Unit {0}
+
+-- the values that can be kept of a register
+abbrev pub Fit : Look → ℕ → Type 0
+Fit nothing x = x ≡ 0
+Fit (value lowHalf) x = x < 2 ^ 32
+Fit (value whole) x = x < 2 ^ 64
+Fit (zeroOrNot part) x = x < 2
+
+-- ---- a field that is read and written back
+
+module _ {A : Type 0} (call : A → Function) (words : List ℕ) where
+  answered : (x : Answer A) → ((a : A) → x ≡ accepted a → wordsOf (call a) ≡ accepted words) → Writes (through call x) words
+  answered (accepted a) f = f a refl
+  answered (refused number carried) f = tt
+
+  -- a word whose writer never refuses
+  number-row : (read : ℕ → Answer A) (number : A → ℕ) → WritesBack Word32 read (always number) → (a : ℕ) → a < 2 ^ 32 →
+      ((x : A) → number x ≡ a → wordsOf (call x) ≡ accepted words) → Writes (through call (read a)) words
+  number-row read number back a h f = answered (read a) (λ x e. f x (same (back a x h e)))
+    where
+      same : {m n : ℕ} → _≡_ {A = Answer ℕ} (accepted m) (accepted n) → m ≡ n
+      same e = cc
+
+state-row : (call : PowerState → Function) (words : List ℕ) (a : ℕ) → a < 2 ^ 32 →
+    ((s : PowerState) → writePowerState s ≡ accepted a → wordsOf (call s) ≡ accepted words) → Writes (through call (readPowerState a)) words
+state-row call words a h f = answered call words (readPowerState a) (λ s e. f s (word-laws .power-state-writes-back a s h e))
+
+-- a core address in either form
+abbrev mpidrAt : Form → ℕ → Answer Mpidr
+mpidrAt narrow a = readMpidr32 a
+mpidrAt wide a = readMpidr64 a
+
+-- it has its form, and is written as it was
+mpidr-back : (form : Form) (a : ℕ) (m : Mpidr) → mpidrAt form a ≡ accepted m → (mpidrForm (m .aff3) ≡ form) × (writeMpidr64 m ≡ a)
+mpidr-back narrow a m e = let o = mpidr32-wide a m e in (ap mpidrForm (o .0), o .1)
+mpidr-back wide a m e = let o = mpidr64-wide a m e in (ap mpidrForm (o .0 .1), o .1)
+
+module _ (form : Form) where
+  mpidr-row : (call : Mpidr → Function) (words : List ℕ) (a : ℕ) →
+      ((m : Mpidr) → mpidrForm (m .aff3) ≡ form → writeMpidr64 m ≡ a → wordsOf (call m) ≡ accepted words) → Writes (through call (mpidrAt form a)) words
+  mpidr-row call words a f = answered call words (mpidrAt form a) (λ m e. let o = mpidr-back form a m e in f m (o .0) (o .1))
+
+  level-row : (most a b : ℕ) (words : List ℕ) →
+      ((m : Mpidr) → mpidrForm (m .aff3) ≡ form → writeMpidr64 m ≡ a → wordsOf (AffinityInfo m b) ≡ accepted words) →
+      Writes (affinityInfo most b (mpidrAt form a)) words
+  level-row most a b words f = tested (leb b most)
+    where
+      tested : (t : Bool) → Writes (cond t (through (λ m. AffinityInfo m b) (mpidrAt form a)) (refused 5 (pos b))) words
+      tested true = mpidr-row (λ m. AffinityInfo m b) words a f
+      tested false = tt
+
+  core-state-row : (call : Mpidr → PowerState → Function) (words : List ℕ) (a b : ℕ) → b < 2 ^ 32 →
+      ((m : Mpidr) (s : PowerState) → mpidrForm (m .aff3) ≡ form → writeMpidr64 m ≡ a → writePowerState s ≡ accepted b → wordsOf (call m s) ≡ accepted words) →
+      Writes (ofCoreState call (mpidrAt form a) (readPowerState b)) words
+  core-state-row call words a b h f = met (mpidrAt form a) (λ m e. mpidr-back form a m e)
+    where
+      met : (x : Answer Mpidr) → ((m : Mpidr) → x ≡ accepted m → (mpidrForm (m .aff3) ≡ form) × (writeMpidr64 m ≡ a)) →
+          Writes (ofCoreState call x (readPowerState b)) words
+      met (accepted m) g = let o = g m refl in state-row (call m) words b h (λ s e. f m s (o .0) (o .1) e)
+      met (refused number carried) g = tt
+
+-- ---- the rows
+
+-- a function's words: its number, and the values of its fields in their registers
+abbrev row : FunctionId → ℕ → ℕ → ℕ → List ℕ
+row f a b c = functionNumber f ∷ a ∷ b ∷ c ∷ []
+
+zeros : {n a b c : ℕ} → a ≡ 0 → b ≡ 0 → c ≡ 0 → _≡_ {A = Answer (List ℕ)} (accepted (n ∷ 0 ∷ 0 ∷ 0 ∷ [])) (accepted (n ∷ a ∷ b ∷ c ∷ []))
+zeros p q s = simp (p, q, s)
+
+protect-row : (a : ℕ) → a < 2 → Writes (callOf id.MemProtect (valueIn (ruleOf (functionNumber id.MemProtect) .fields) (row id.MemProtect a 0 0))) (row id.MemProtect a 0 0)
+unfolding ruleOf wordsOf functionIdOf argumentsOf
+protect-row zero h = refl
+protect-row (suc zero) h = refl
+protect-row (suc (suc a)) h = absurd (omega arith)
+
+pub row-law : (f : FunctionId) (a b c : ℕ) → Fit (lookAt (functionNumber f) 1) a → Fit (lookAt (functionNumber f) 2) b → Fit (lookAt (functionNumber f) 3) c →
+    Writes (callOf f (valueIn (ruleOf (functionNumber f) .fields) (row f a b c))) (row f a b c)
+unfolding ruleOf wordsOf functionIdOf argumentsOf
+row-law id.PsciVersion a b c p q s = zeros p q s
+row-law id.CpuSuspend32 a b c p q s = state-row _ _ a p (λ x e. simp e)
+row-law id.CpuSuspend64 a b c p q s = state-row _ _ a p (λ x e. simp e)
+row-law id.CpuOff a b c p q s = zeros p q s
+row-law id.CpuOn32 a b c p q s = mpidr-row narrow _ _ a (λ m k e. simp (k, e))
+row-law id.CpuOn64 a b c p q s = mpidr-row wide _ _ a (λ m k e. simp (k, e))
+row-law id.AffinityInfo32 a b c p q s = level-row narrow 2 a b _ (λ m k e. simp (k, e, s))
+row-law id.AffinityInfo64 a b c p q s = level-row wide 3 a b _ (λ m k e. simp (k, e, s))
+row-law id.Migrate32 a b c p q s = mpidr-row narrow _ _ a (λ m k e. simp (k, e, q, s))
+row-law id.Migrate64 a b c p q s = mpidr-row wide _ _ a (λ m k e. simp (k, e, q, s))
+row-law id.MigrateInfoType a b c p q s = zeros p q s
+row-law id.MigrateInfoUpCpu32 a b c p q s = zeros p q s
+row-law id.MigrateInfoUpCpu64 a b c p q s = zeros p q s
+row-law id.SystemOff a b c p q s = zeros p q s
+row-law id.SystemReset a b c p q s = zeros p q s
+row-law id.PsciFeatures a b c p q s = number-row _ _ _ _ (word-laws .feature-writes-back) a p (λ x e. simp (e, q, s))
+row-law id.CpuFreeze a b c p q s = zeros p q s
+row-law id.CpuDefaultSuspend32 a b c p q s = simp s
+row-law id.CpuDefaultSuspend64 a b c p q s = simp s
+row-law id.NodeHwState32 a b c p q s = mpidr-row narrow _ _ a (λ m k e. simp (k, e, s))
+row-law id.NodeHwState64 a b c p q s = mpidr-row wide _ _ a (λ m k e. simp (k, e, s))
+row-law id.SystemSuspend32 a b c p q s = simp s
+row-law id.SystemSuspend64 a b c p q s = simp s
+row-law id.PsciSetSuspendMode a b c p q s = number-row _ _ _ _ (word-laws .mode-writes-back) a p (λ x e. simp (e, q, s))
+row-law id.PsciStatResidency32 a b c p q s = core-state-row narrow _ _ a b q (λ m x k e u. simp (k, e, u, s))
+row-law id.PsciStatResidency64 a b c p q s = core-state-row wide _ _ a b q (λ m x k e u. simp (k, e, u, s))
+row-law id.PsciStatCount32 a b c p q s = core-state-row narrow _ _ a b q (λ m x k e u. simp (k, e, u, s))
+row-law id.PsciStatCount64 a b c p q s = core-state-row wide _ _ a b q (λ m x k e u. simp (k, e, u, s))
+row-law id.SystemReset232 a b c p q s = number-row _ _ _ _ (word-laws .reset-type-writes-back) a p (λ x e. simp (e, s))
+row-law id.SystemReset264 a b c p q s = number-row _ _ _ _ (word-laws .reset-type-writes-back) a p (λ x e. simp (e, s))
+row-law id.MemProtect a b c p q s = rw (q, s) (protect-row a p)
+row-law id.MemProtectCheckRange32 a b c p q s = simp s
+row-law id.MemProtectCheckRange64 a b c p q s = simp s
+row-law id.SystemOff232 a b c p q s = number-row _ _ _ _ (word-laws .off-type-writes-back) a p (λ x e. simp (e, s))
+row-law id.SystemOff264 a b c p q s = number-row _ _ _ _ (word-laws .off-type-writes-back) a p (λ x e. simp (e, s))

@@ -1,0 +1,12 @@
+-- Document 01's codec, and demand 3 of it.
+use Rattle.function_ids.specs.CallTable.{lookAt}
+use Rattle.function.specs.declared.Function.{Function}
+use Rattle.decode.specs.Decode.{decodeOf}
+use Rattle.encode.specs.Encode.{encodeOf}
+use Rattle.roundtrip.specs.Codec.{Codec, Demand3}
+
+abbrev pub psci : Codec
+psci = record { Call = Function; decode = decodeOf; encode = encodeOf; look = lookAt }
+
+abbrev pub Demand3Of01 : Type 0
+Demand3Of01 = Demand3 psci
