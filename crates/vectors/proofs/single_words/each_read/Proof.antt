@@ -1,0 +1,27 @@
+-- `single_words::each_read` is safe and ends: the index stays within the slice, and what is left of the slice shrinks. Assumes nothing.
+use Prim.Native.Nat.{_≤_, _-_}
+use lib.ListN.{length}
+use borrow.Author.Needs.{needs}
+use Rattle.vectors.proofs.single_words.each_read.Statement.{statement}
+use Rattle.vectors.proofs.single_words.each_read.Tie as tie
+
+abbrev Inv-loop : tie.InvT-loop
+Inv-loop kind words i₀ i = i ≤ length words
+
+abbrev μ-loop : tie.MeasureT-loop
+μ-loop kind words i₀ i = length words - i
+
+pub each-read-spec : {M : Type 1} → statement M
+each-read-spec =
+    tie.close
+    (tie.spec
+    Inv-loop
+    μ-loop
+    (λ c. search needs)
+    (λ c. search needs)
+    (λ c. search needs)
+    (λ c κs. search needs)
+    (λ c. search needs)
+    (λ c. search needs)
+    (λ c. search needs)
+    (λ c. search needs))
