@@ -1,27 +1,150 @@
-// Runs the cases of document 01's list, the limits of each refusal and DEN0022's published values, one to a line, and
-// prints what it saw. The expected output, stdout, is written by tools/expected-vectors.
-mod calls;
-mod last_line;
-mod limits;
-mod listed;
-mod names;
-mod parts;
-mod published;
-mod refused;
-mod second_group;
-mod show;
-mod signed_codes;
-mod single_words;
-mod typed;
-mod written_limits;
-mod wrong_turns;
+// Runs the cases of standard input through the codec, and prints a line for each with what it saw. A case is 256 bytes: a label of at most
+// 127 bytes, its length in byte 127, and the sixteen big-endian words of a record of the wire (crates/wire_operations/specs/Records.antt).
+// tools/expected-vectors writes the cases and the lines from the papers.
+use encode::EncodeResult;
+use wire_parts::asked::Asked;
+use wire_parts::asked::call_asked;
+use wire_parts::parts::refusal_number;
+use wire_parts::parts::refusal_value;
+
+// Operations beside the wire's: a heading, which has a label alone; and a call written to a lent run, whose length is word 15.
+const HEADING: u64 = 1000;
+
+const LENT: u64 = 1001;
+
+// What a lent run holds before a call is written to it.
+const PATTERN: u64 = 0xa5a5;
+
+fn space() {
+    io::write_all(1, b" ");
+}
+
+fn show_refusal(number: u64, value: u64) {
+    io::write_all(1, b": refused ");
+    io::print_decimal(1, number);
+    space();
+    io::print_hex(1, value, 1);
+}
+
+// The words of a record from one place up to another.
+fn show_words(w: [u64; 16], from: usize, to: usize) {
+    let mut i = from;
+    while i < to {
+        if i < 16 {
+            space();
+            io::print_hex(1, w[i], 1);
+        }
+        i += 1;
+    }
+}
+
+// The answer to a record: readers give nine words, all others write registers. A word that was not written is as it was asked.
+fn show_answer(w: [u64; 16]) {
+    if w[14] == 0 {
+        io::write_all(1, b": accepted");
+    } else {
+        show_refusal(w[14], w[15]);
+    }
+    let op = w[0];
+    if op == 1 || op == 2 || 48 <= op {
+        show_words(w, 10, 14);
+    } else {
+        show_words(w, 1, 10);
+    }
+}
+
+fn show_run(run: [u64; 5]) {
+    space();
+    io::print_hex(1, run[0], 1);
+    space();
+    io::print_hex(1, run[1], 1);
+    space();
+    io::print_hex(1, run[2], 1);
+    space();
+    io::print_hex(1, run[3], 1);
+    space();
+    io::print_hex(1, run[4], 1);
+}
+
+// A call written to the first numbers of five.
+fn show_lent(w: [u64; 16]) {
+    let mut run = [PATTERN; 5];
+    let length = (w[15] % 6) as usize;
+    let c = [w[1], w[2], w[3], w[4], w[5], w[6], w[7], w[8], w[9]];
+    match call_asked(c) {
+        Asked::Call(function) => match encode::encode(function, &mut run[..length]) {
+            EncodeResult::Ok => {
+                io::write_all(1, b": accepted");
+            }
+            EncodeResult::Err(error) => show_refusal(refusal_number(error), refusal_value(error)),
+        },
+        Asked::UnknownTag(tag) => show_refusal(1002, tag),
+        Asked::WrongPart => show_refusal(1003, 0),
+    }
+    show_run(run);
+}
+
+// The sixteen words of a case.
+fn record(case: [u8; 256]) -> [u64; 16] {
+    let a = call_log::registers_of(&case[128..160]);
+    let b = call_log::registers_of(&case[160..192]);
+    let c = call_log::registers_of(&case[192..224]);
+    let d = call_log::registers_of(&case[224..256]);
+    [
+        a[0],
+        a[1],
+        a[2],
+        a[3],
+        b[0],
+        b[1],
+        b[2],
+        b[3],
+        c[0],
+        c[1],
+        c[2],
+        c[3],
+        d[0],
+        d[1],
+        d[2],
+        d[3],
+    ]
+}
+
+fn show_label(case: [u8; 256]) {
+    let length = case[127] as usize;
+    if length <= 127 {
+        io::write_all(1, &case[..length]);
+    }
+}
+
+fn show_case(case: [u8; 256]) {
+    show_label(case);
+    let w = record(case);
+    let op = w[0];
+    if op == LENT {
+        show_lent(w);
+    } else if op != HEADING {
+        show_answer(wire_operations::answer(w));
+    }
+    io::write_all(1, b"\n");
+}
+
+// Whether there was another case.
+fn step() -> bool {
+    let mut case = [0u8; 256];
+    let got = io::read_full(0, &mut case);
+    if got != 256 {
+        return false;
+    }
+    show_case(case);
+    true
+}
 
 fn main() {
-    last_line::run();
-    wrong_turns::run();
-    limits::run();
-    written_limits::run();
-    published::run();
-    second_group::run();
-    listed::run();
+    let mut turns: u64 = 10000;
+    let mut more = true;
+    while turns > 0 && more {
+        more = step();
+        turns -= 1;
+    }
 }

@@ -1,0 +1,14 @@
+-- `wire_operations::records::refused` meets its contract.
+-- Assumes nothing.
+use borrow.Author.Needs.{needs}
+use Rattle.wire_operations.proofs.records.refused.Statement.{statement}
+use Rattle.wire_operations.proofs.records.refused.Tie as tie
+
+pub refused-spec : {M : Type 1} → statement M
+refused-spec =
+    tie.close
+    (tie.spec
+    (λ c κs. search needs)
+    (λ c κs. search needs)
+    (λ c κs. search needs)
+    (λ c. simp (c .turned-back .ensures, c .before .refusal-value .ensures, c .before .before .refusal-number .ensures)))

@@ -1,0 +1,221 @@
+-- A value on the wire is nine words: a tag, its parts, then zeros. The tag of a call is its place in the enum Function, that of any other value is 0.
+-- A case of an enum without data is its place in the enum.
+use mathlib.Core.Bool.{Bool, true, false}
+use mathlib.Core.List.{List, [], _∷_, _++_}
+use Prim.Native.Nat.{ℕ}
+use lib.ListN.{getD}
+use Rattle.refusals.specs.Errors.{refusalNumber, refusalValue}
+use Rattle.refusals.specs.declared.Error.{Error}
+use Rattle.bits.specs.Signs.{wordOf}
+use Rattle.function_ids.specs.CallTable.{Form, narrow, wide}
+use Rattle.function_ids.specs.declared.FunctionId.{FunctionId}
+use Rattle.function_ids.specs.declared.FunctionId.the-variants as id
+use Rattle.codes.specs.declared.ErrorCode.{ErrorCode}
+use Rattle.codes.specs.declared.ErrorCode.the-variants as code
+use Rattle.codes.specs.declared.ReturnCode.{ReturnCode}
+use Rattle.codes.specs.declared.ReturnCode.the-variants as return
+use Rattle.words.specs.EntryPoints.{entryAddress, entryContext}
+use Rattle.words.specs.Mpidrs.{aff3Number}
+use Rattle.words.specs.declared.cookies.Cookie.{Cookie}
+use Rattle.words.specs.declared.entry_points.EntryPoint.{EntryPoint}
+use Rattle.words.specs.declared.hw_states.HwState.{HwState}
+use Rattle.words.specs.declared.hw_states.HwState.the-variants as state
+use Rattle.words.specs.declared.mem_protect_ranges.MemProtectRange.{MemProtectRange}
+use Rattle.words.specs.declared.mpidrs.Mpidr.{Mpidr}
+use Rattle.words.specs.declared.power_states.PowerState.{PowerState}
+use Rattle.words.specs.declared.power_states.PowerState.the-variants.{StandbyOrRetention, PowerDown}
+use Rattle.words.specs.declared.psci_features.PsciFeature.{PsciFeature}
+use Rattle.words.specs.declared.psci_features.PsciFeature.the-variants.{PsciFunction, SmcccVersion}
+use Rattle.words.specs.declared.reset_types.ArchitecturalResetType.{ArchitecturalResetType}
+use Rattle.words.specs.declared.reset_types.ResetType.{ResetType}
+use Rattle.words.specs.declared.reset_types.ResetType.the-variants.{Architectural, VendorSpecific}
+use Rattle.words.specs.declared.suspend_modes.SuspendMode.{SuspendMode}
+use Rattle.words.specs.declared.suspend_modes.SuspendMode.the-variants.{PlatformCoordinated, OsInitiated}
+use Rattle.words.specs.declared.system_off2_types.SystemOff2Type.{SystemOff2Type}
+use Rattle.words.specs.declared.versions.Version.{Version}
+use Rattle.function.specs.Functions.{entryForm, cookieForm, rangeForm, mpidrForm}
+use Rattle.function.specs.declared.Function.{Function}
+use Rattle.function.specs.declared.Function.the-variants as call
+use Rattle.encode.specs.Arguments.{cookieWord, baseWord, lengthWord, flagWord}
+
+-- the first nine of some words, and zeros for those that are lacking
+abbrev pub nine : List ℕ → List ℕ
+nine l = getD l 0 0 ∷ getD l 1 0 ∷ getD l 2 0 ∷ getD l 3 0 ∷ getD l 4 0 ∷ getD l 5 0 ∷ getD l 6 0 ∷ getD l 7 0 ∷ getD l 8 0 ∷ []
+
+-- 0 for the 32-bit form, 1 for the 64-bit form
+abbrev pub formPart : Form → ℕ
+formPart narrow = 0
+formPart wide = 1
+
+-- whether affinity 3 is there, then affinities 3 to 0
+abbrev pub mpidrParts : Mpidr → List ℕ
+mpidrParts m = formPart (mpidrForm (m .aff3)) ∷ aff3Number (m .aff3) ∷ m .aff2 ∷ m .aff1 ∷ m .aff0 ∷ []
+
+-- 1 for power down; the state ID
+abbrev pub downPart : PowerState → ℕ
+downPart (StandbyOrRetention id) = 0
+downPart (PowerDown id) = 1
+
+abbrev pub stateId : PowerState → ℕ
+stateId (StandbyOrRetention id) = id
+stateId (PowerDown id) = id
+
+abbrev pub powerStateParts : PowerState → List ℕ
+powerStateParts s = downPart s ∷ stateId s ∷ []
+
+-- the form, the address, the context
+abbrev pub entryParts : EntryPoint → List ℕ
+entryParts e = formPart (entryForm e) ∷ entryAddress e ∷ entryContext e ∷ []
+
+-- the form, the cookie
+abbrev pub cookieParts : Cookie → List ℕ
+cookieParts c = formPart (cookieForm c) ∷ cookieWord c ∷ []
+
+-- the form, the base, the length
+abbrev pub rangeParts : MemProtectRange → List ℕ
+rangeParts r = formPart (rangeForm r) ∷ baseWord r ∷ lengthWord r ∷ []
+
+-- 1 for a vendor's; its type
+abbrev pub vendorPart : ResetType → ℕ
+vendorPart (Architectural t) = 0
+vendorPart (VendorSpecific t) = 1
+
+abbrev pub vendorType : ResetType → ℕ
+vendorType (Architectural t) = 0
+vendorType (VendorSpecific t) = t
+
+abbrev pub resetTypeParts : ResetType → List ℕ
+resetTypeParts t = vendorPart t ∷ vendorType t ∷ []
+
+abbrev pub functionPlace : FunctionId → ℕ
+functionPlace id.PsciVersion = 0
+functionPlace id.CpuSuspend32 = 1
+functionPlace id.CpuSuspend64 = 2
+functionPlace id.CpuOff = 3
+functionPlace id.CpuOn32 = 4
+functionPlace id.CpuOn64 = 5
+functionPlace id.AffinityInfo32 = 6
+functionPlace id.AffinityInfo64 = 7
+functionPlace id.Migrate32 = 8
+functionPlace id.Migrate64 = 9
+functionPlace id.MigrateInfoType = 10
+functionPlace id.MigrateInfoUpCpu32 = 11
+functionPlace id.MigrateInfoUpCpu64 = 12
+functionPlace id.SystemOff = 13
+functionPlace id.SystemReset = 14
+functionPlace id.PsciFeatures = 15
+functionPlace id.CpuFreeze = 16
+functionPlace id.CpuDefaultSuspend32 = 17
+functionPlace id.CpuDefaultSuspend64 = 18
+functionPlace id.NodeHwState32 = 19
+functionPlace id.NodeHwState64 = 20
+functionPlace id.SystemSuspend32 = 21
+functionPlace id.SystemSuspend64 = 22
+functionPlace id.PsciSetSuspendMode = 23
+functionPlace id.PsciStatResidency32 = 24
+functionPlace id.PsciStatResidency64 = 25
+functionPlace id.PsciStatCount32 = 26
+functionPlace id.PsciStatCount64 = 27
+functionPlace id.SystemReset232 = 28
+functionPlace id.SystemReset264 = 29
+functionPlace id.MemProtect = 30
+functionPlace id.MemProtectCheckRange32 = 31
+functionPlace id.MemProtectCheckRange64 = 32
+functionPlace id.SystemOff232 = 33
+functionPlace id.SystemOff264 = 34
+
+-- 1 for the SMCCC version; the function's place
+abbrev pub smcccPart : PsciFeature → ℕ
+smcccPart (PsciFunction f) = 0
+smcccPart SmcccVersion = 1
+
+abbrev pub featurePlace : PsciFeature → ℕ
+featurePlace (PsciFunction f) = functionPlace f
+featurePlace SmcccVersion = 0
+
+abbrev pub featureParts : PsciFeature → List ℕ
+featureParts f = smcccPart f ∷ featurePlace f ∷ []
+
+abbrev pub modePlace : SuspendMode → ℕ
+modePlace PlatformCoordinated = 0
+modePlace OsInitiated = 1
+
+abbrev pub hwStatePlace : HwState → ℕ
+hwStatePlace state.On = 0
+hwStatePlace state.Off = 1
+hwStatePlace state.Standby = 2
+
+abbrev pub codePlace : ErrorCode → ℕ
+codePlace code.NotSupported = 0
+codePlace code.InvalidParameters = 1
+codePlace code.Denied = 2
+codePlace code.AlreadyOn = 3
+codePlace code.OnPending = 4
+codePlace code.InternalFailure = 5
+codePlace code.NotPresent = 6
+codePlace code.Disabled = 7
+codePlace code.InvalidAddress = 8
+
+-- 1 for an error; its place
+abbrev pub failurePart : ReturnCode → ℕ
+failurePart return.Success = 0
+failurePart (return.Error c) = 1
+
+abbrev pub failurePlace : ReturnCode → ℕ
+failurePlace return.Success = 0
+failurePlace (return.Error c) = codePlace c
+
+-- ---- the nine words of each value
+
+abbrev pub mpidrWords : Mpidr → List ℕ
+mpidrWords m = nine (0 ∷ mpidrParts m)
+
+abbrev pub powerStateWords : PowerState → List ℕ
+powerStateWords s = nine (0 ∷ powerStateParts s)
+
+abbrev pub entryWords : EntryPoint → List ℕ
+entryWords e = nine (0 ∷ entryParts e)
+
+abbrev pub resetTypeWords : ResetType → List ℕ
+resetTypeWords t = nine (0 ∷ resetTypeParts t)
+
+abbrev pub featureWords : PsciFeature → List ℕ
+featureWords f = nine (0 ∷ featureParts f)
+
+abbrev pub versionWords : Version → List ℕ
+versionWords v = nine (0 ∷ v .major ∷ v .minor ∷ [])
+
+abbrev pub returnCodeWords : ReturnCode → List ℕ
+returnCodeWords r = nine (0 ∷ failurePart r ∷ failurePlace r ∷ [])
+
+-- a case of an enum without data
+abbrev pub placeWords : ℕ → List ℕ
+placeWords place = nine (0 ∷ place ∷ [])
+
+-- a refusal: its number, and the value that it carries in two's complement of 64 bits
+abbrev pub errorWords : Error → List ℕ
+errorWords e = nine (0 ∷ refusalNumber e ∷ wordOf 64 (refusalValue e) ∷ [])
+
+unfoldable pub callWords : Function → List ℕ
+callWords call.Version = nine (0 ∷ [])
+callWords (call.CpuSuspend state entry) = nine (1 ∷ powerStateParts state ++ entryParts entry)
+callWords call.CpuOff = nine (2 ∷ [])
+callWords (call.CpuOn mpidr entry) = nine (3 ∷ mpidrParts mpidr ++ entryParts entry)
+callWords (call.AffinityInfo mpidr level) = nine (4 ∷ mpidrParts mpidr ++ level ∷ [])
+callWords (call.Migrate mpidr) = nine (5 ∷ mpidrParts mpidr)
+callWords call.MigrateInfoType = nine (6 ∷ [])
+callWords (call.MigrateInfoUpCpu is32bit) = nine (7 ∷ flagWord is32bit ∷ [])
+callWords call.SystemOff = nine (8 ∷ [])
+callWords (call.SystemOff2 offType cookie) = nine (9 ∷ 0 ∷ cookieParts cookie)
+callWords call.SystemReset = nine (10 ∷ [])
+callWords (call.SystemReset2 resetType cookie) = nine (11 ∷ resetTypeParts resetType ++ cookieParts cookie)
+callWords (call.MemProtect enabled) = nine (12 ∷ flagWord enabled ∷ [])
+callWords (call.MemProtectCheckRange range) = nine (13 ∷ rangeParts range)
+callWords (call.Features feature) = nine (14 ∷ featureParts feature)
+callWords call.CpuFreeze = nine (15 ∷ [])
+callWords (call.CpuDefaultSuspend entry) = nine (16 ∷ entryParts entry)
+callWords (call.NodeHwState mpidr level) = nine (17 ∷ mpidrParts mpidr ++ level ∷ [])
+callWords (call.SystemSuspend entry) = nine (18 ∷ entryParts entry)
+callWords (call.SetSuspendMode mode) = nine (19 ∷ modePlace mode ∷ [])
+callWords (call.StatResidency mpidr state) = nine (20 ∷ mpidrParts mpidr ++ powerStateParts state)
+callWords (call.StatCount mpidr state) = nine (21 ∷ mpidrParts mpidr ++ powerStateParts state)
