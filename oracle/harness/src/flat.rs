@@ -1,0 +1,208 @@
+//! A typed call as nine words, `[tag, part, ..]`, and back. A tag is the case's place in the declaration of `Function`; a
+//! case of an enum without data is its place in its list below. Parts: MPIDR `present aff3 aff2 aff1 aff0`; power state `down id`;
+//! entry, cookie, range `is64 value..`; reset type `vendor value`; feature `smccc place`. The parts are cut to their places here;
+//! `lib.rs` holds the words that come back against those that were asked.
+use arm_psci::*;
+
+pub type Flat = [u64; 9];
+
+/// In the order of document 01's table.
+pub const IDS: [FunctionId; 35] = {
+    use FunctionId::*;
+    [
+        PsciVersion, CpuSuspend32, CpuSuspend64, CpuOff, CpuOn32, CpuOn64, AffinityInfo32,
+        AffinityInfo64, Migrate32, Migrate64, MigrateInfoType, MigrateInfoUpCpu32,
+        MigrateInfoUpCpu64, SystemOff, SystemReset, PsciFeatures, CpuFreeze,
+        CpuDefaultSuspend32, CpuDefaultSuspend64, NodeHwState32, NodeHwState64,
+        SystemSuspend32, SystemSuspend64, PsciSetSuspendMode, PsciStatResidency32,
+        PsciStatResidency64, PsciStatCount32, PsciStatCount64, SystemReset232, SystemReset264,
+        MemProtect, MemProtectCheckRange32, MemProtectCheckRange64, SystemOff232, SystemOff264,
+    ]
+};
+
+pub const CODES: [ErrorCode; 9] = {
+    use ErrorCode::*;
+    [
+        NotSupported, InvalidParameters, Denied, AlreadyOn, OnPending, InternalFailure, NotPresent,
+        Disabled, InvalidAddress,
+    ]
+};
+
+pub const HW: [HwState; 3] = [HwState::On, HwState::Off, HwState::Standby];
+pub const MODES: [SuspendMode; 2] = [SuspendMode::PlatformCoordinated, SuspendMode::OsInitiated];
+
+/// The place of a case in its list.
+pub fn place<T: PartialEq>(cases: &[T], x: T) -> u64 {
+    cases.iter().position(|c| *c == x).unwrap() as u64
+}
+
+/// `tag` and the parts, the rest zero.
+pub fn flat(tag: u64, parts: &[u64]) -> Flat {
+    let mut out = [0; 9];
+    out[0] = tag;
+    out[1..1 + parts.len()].copy_from_slice(parts);
+    out
+}
+
+pub fn mpidr(m: Mpidr) -> [u64; 5] {
+    [
+        m.aff3.is_some() as u64,
+        m.aff3.unwrap_or(0).into(),
+        m.aff2.into(),
+        m.aff1.into(),
+        m.aff0.into(),
+    ]
+}
+
+pub fn to_mpidr(p: &[u64]) -> Mpidr {
+    Mpidr {
+        aff0: p[4] as u8,
+        aff1: p[3] as u8,
+        aff2: p[2] as u8,
+        aff3: if p[0] == 0 { None } else { Some(p[1] as u8) },
+    }
+}
+
+pub fn power(s: PowerState) -> [u64; 2] {
+    match s {
+        PowerState::StandbyOrRetention(id) => [0, id.into()],
+        PowerState::PowerDown(id) => [1, id.into()],
+    }
+}
+
+pub fn to_power(p: &[u64]) -> PowerState {
+    if p[0] == 0 { PowerState::StandbyOrRetention(p[1] as u32) } else { PowerState::PowerDown(p[1] as u32) }
+}
+
+pub fn entry(e: EntryPoint) -> [u64; 3] {
+    match e {
+        EntryPoint::Entry32 { entry_point_address: a, context_id: c } => [0, a.into(), c.into()],
+        EntryPoint::Entry64 { entry_point_address: a, context_id: c } => [1, a, c],
+    }
+}
+
+pub fn to_entry(p: &[u64]) -> EntryPoint {
+    if p[0] == 0 {
+        EntryPoint::Entry32 { entry_point_address: p[1] as u32, context_id: p[2] as u32 }
+    } else {
+        EntryPoint::Entry64 { entry_point_address: p[1], context_id: p[2] }
+    }
+}
+
+pub fn cookie(c: Cookie) -> [u64; 2] {
+    match c {
+        Cookie::Cookie32(v) => [0, v.into()],
+        Cookie::Cookie64(v) => [1, v],
+    }
+}
+
+pub fn to_cookie(p: &[u64]) -> Cookie {
+    if p[0] == 0 { Cookie::Cookie32(p[1] as u32) } else { Cookie::Cookie64(p[1]) }
+}
+
+pub fn reset(r: ResetType) -> [u64; 2] {
+    match r {
+        ResetType::Architectural(ArchitecturalResetType::SystemWarmReset) => [0, 0],
+        ResetType::VendorSpecific(v) => [1, v.into()],
+    }
+}
+
+pub fn to_reset(p: &[u64]) -> ResetType {
+    if p[0] == 0 {
+        ResetType::Architectural(ArchitecturalResetType::SystemWarmReset)
+    } else {
+        ResetType::VendorSpecific(p[1] as u32)
+    }
+}
+
+pub fn feature(f: PsciFeature) -> [u64; 2] {
+    match f {
+        PsciFeature::PsciFunction(id) => [0, place(&IDS, id)],
+        PsciFeature::SmcccVersion => [1, 0],
+    }
+}
+
+pub fn to_feature(p: &[u64]) -> PsciFeature {
+    if p[0] == 0 { PsciFeature::PsciFunction(IDS[p[1] as usize % 35]) } else { PsciFeature::SmcccVersion }
+}
+
+fn range(r: MemProtectRange) -> [u64; 3] {
+    match r {
+        MemProtectRange::Range32 { base, length } => [0, base.into(), length.into()],
+        MemProtectRange::Range64 { base, length } => [1, base, length],
+    }
+}
+
+fn to_range(p: &[u64]) -> MemProtectRange {
+    if p[0] == 0 {
+        MemProtectRange::Range32 { base: p[1] as u32, length: p[2] as u32 }
+    } else {
+        MemProtectRange::Range64 { base: p[1], length: p[2] }
+    }
+}
+
+fn join(a: &[u64], b: &[u64]) -> Vec8 {
+    let mut out = [0; 8];
+    out[..a.len()].copy_from_slice(a);
+    out[a.len()..a.len() + b.len()].copy_from_slice(b);
+    out
+}
+type Vec8 = [u64; 8];
+
+pub fn call(f: Function) -> Flat {
+    use Function as F;
+    match f {
+        F::Version => flat(0, &[]),
+        F::CpuSuspend { state, entry: e } => flat(1, &join(&power(state), &entry(e))),
+        F::CpuOff => flat(2, &[]),
+        F::CpuOn { target_cpu, entry: e } => flat(3, &join(&mpidr(target_cpu), &entry(e))),
+        F::AffinityInfo { mpidr: m, lowest_affinity_level: l } => flat(4, &join(&mpidr(m), &[l.into()])),
+        F::Migrate { target_affinity } => flat(5, &mpidr(target_affinity)),
+        F::MigrateInfoType => flat(6, &[]),
+        F::MigrateInfoUpCpu { is_32bit } => flat(7, &[is_32bit as u64]),
+        F::SystemOff => flat(8, &[]),
+        F::SystemOff2 { off_type: SystemOff2Type::HibernateOff, cookie: c } => flat(9, &join(&[0], &cookie(c))),
+        F::SystemReset => flat(10, &[]),
+        F::SystemReset2 { reset_type, cookie: c } => flat(11, &join(&reset(reset_type), &cookie(c))),
+        F::MemProtect { enabled } => flat(12, &[enabled as u64]),
+        F::MemProtectCheckRange { range: r } => flat(13, &range(r)),
+        F::Features { psci_func_id } => flat(14, &feature(psci_func_id)),
+        F::CpuFreeze => flat(15, &[]),
+        F::CpuDefaultSuspend { entry: e } => flat(16, &entry(e)),
+        F::NodeHwState { target_cpu, power_level } => flat(17, &join(&mpidr(target_cpu), &[power_level.into()])),
+        F::SystemSuspend { entry: e } => flat(18, &entry(e)),
+        F::SetSuspendMode { mode } => flat(19, &[place(&MODES, mode)]),
+        F::StatResidency { target_cpu, power_state } => flat(20, &join(&mpidr(target_cpu), &power(power_state))),
+        F::StatCount { target_cpu, power_state } => flat(21, &join(&mpidr(target_cpu), &power(power_state))),
+    }
+}
+
+pub fn to_call(w: &Flat) -> Function {
+    use Function as F;
+    let p = &w[1..];
+    match w[0] {
+        0 => F::Version,
+        1 => F::CpuSuspend { state: to_power(p), entry: to_entry(&p[2..]) },
+        2 => F::CpuOff,
+        3 => F::CpuOn { target_cpu: to_mpidr(p), entry: to_entry(&p[5..]) },
+        4 => F::AffinityInfo { mpidr: to_mpidr(p), lowest_affinity_level: p[5] as u32 },
+        5 => F::Migrate { target_affinity: to_mpidr(p) },
+        6 => F::MigrateInfoType,
+        7 => F::MigrateInfoUpCpu { is_32bit: p[0] != 0 },
+        8 => F::SystemOff,
+        9 => F::SystemOff2 { off_type: SystemOff2Type::HibernateOff, cookie: to_cookie(&p[1..]) },
+        10 => F::SystemReset,
+        11 => F::SystemReset2 { reset_type: to_reset(p), cookie: to_cookie(&p[2..]) },
+        12 => F::MemProtect { enabled: p[0] != 0 },
+        13 => F::MemProtectCheckRange { range: to_range(p) },
+        14 => F::Features { psci_func_id: to_feature(p) },
+        15 => F::CpuFreeze,
+        16 => F::CpuDefaultSuspend { entry: to_entry(p) },
+        17 => F::NodeHwState { target_cpu: to_mpidr(p), power_level: p[5] as u32 },
+        18 => F::SystemSuspend { entry: to_entry(p) },
+        19 => F::SetSuspendMode { mode: MODES[(p[0] != 0) as usize] },
+        20 => F::StatResidency { target_cpu: to_mpidr(p), power_state: to_power(&p[5..]) },
+        21 => F::StatCount { target_cpu: to_mpidr(p), power_state: to_power(&p[5..]) },
+        tag => unreachable!("tag {tag}"),
+    }
+}

@@ -1,0 +1,20 @@
+//! The exported functions of the crates `wire_record` and `wire`. Nothing checks these declarations against the Rattle source but the
+//! comparison itself.
+use crate::Record;
+
+/// A refusal's number and what it carries, or twice 0.
+#[repr(C)]
+#[derive(Clone, Copy, Debug, Eq, PartialEq)]
+pub struct Refusal {
+    pub number: u64,
+    pub carried: u64,
+}
+
+unsafe extern "C" {
+    /// A struct of sixteen words by value, both ways.
+    pub safe fn psci_answer(question: Record) -> Record;
+    // `&[T; n]` and `&mut [T; n]` are thin pointers.
+    pub safe fn psci_decode(regs: &[u64; 4], out: &mut [u64; 9]) -> Refusal;
+    pub safe fn psci_encode(call: &[u64; 9], out: &mut [u64; 4]) -> Refusal;
+    pub safe fn psci_recode(regs: &[u64; 4], out: &mut [u64; 4]) -> Refusal;
+}
