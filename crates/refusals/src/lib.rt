@@ -1,4 +1,9 @@
 // What is turned back, and why: document 01, "What is turned back, by operation". The number beside each case is document 01's.
+ghost use mathlib.Core.Path.{_≡_};
+ghost use Rattle.bits.specs.Signs.{wordOf};
+ghost use Rattle.refusals.specs.Errors.{refusalNumber, refusalValue};
+use bits::signs;
+
 pub enum Error {
     UnrecognisedFunctionId(u32), // 1
     InvalidPowerState(u32), // 2
@@ -17,6 +22,64 @@ pub enum Error {
     InvalidStateId(u32), // 15
     InvalidMajorVersion(u16), // 16
     WrongLength(usize), // 17
+}
+
+impl Error {
+    // Document 01's number of a refusal.
+    pub fn number(self) -> u64
+        ensures { λ r. ⌜ r ≡ refusalNumber self ⌝ }
+    {
+        match self {
+            Self::UnrecognisedFunctionId(_) => 1,
+            Self::InvalidPowerState(_) => 2,
+            Self::InvalidMpidr32(_) => 3,
+            Self::InvalidMpidr64(_) => 4,
+            Self::InvalidLowerAffinityLevel(_) => 5,
+            Self::UnrecognisedSystemOff2Type(_) => 6,
+            Self::UnrecognisedSystemReset2Type(_) => 7,
+            Self::UnrecognisedSuspendMode(_) => 8,
+            Self::UnrecognisedErrorCode(_) => 9,
+            Self::OverflowingErrorCode(_) => 10,
+            Self::InvalidVersion(_) => 11,
+            Self::UnrecognisedHwState(_) => 12,
+            Self::IgnoredNonZeroAff3(_) => 13,
+            Self::MixedCallForms => 14,
+            Self::InvalidStateId(_) => 15,
+            Self::InvalidMajorVersion(_) => 16,
+            Self::WrongLength(_) => 17,
+        }
+    }
+
+    // The value that it carries, as a word: a signed one in two's complement of 64 bits.
+    pub fn value(self) -> u64
+        ensures { λ r. ⌜ r ≡ wordOf 64 (refusalValue self) ⌝ }
+    {
+        match self {
+            Self::UnrecognisedFunctionId(value) => value as u64,
+            Self::InvalidPowerState(value) => value as u64,
+            Self::InvalidMpidr32(value) => value as u64,
+            Self::InvalidMpidr64(value) => value,
+            Self::InvalidLowerAffinityLevel(value) => value as u64,
+            Self::UnrecognisedSystemOff2Type(value) => value as u64,
+            Self::UnrecognisedSystemReset2Type(value) => value as u64,
+            Self::UnrecognisedSuspendMode(value) => value as u64,
+            Self::UnrecognisedErrorCode(value) => sign_extended(value),
+            Self::OverflowingErrorCode(value) => signs::word_64(value),
+            Self::InvalidVersion(value) => value as u64,
+            Self::UnrecognisedHwState(value) => value as u64,
+            Self::IgnoredNonZeroAff3(value) => value as u64,
+            Self::MixedCallForms => 0,
+            Self::InvalidStateId(value) => value as u64,
+            Self::InvalidMajorVersion(value) => value as u64,
+            Self::WrongLength(value) => value as u64,
+        }
+    }
+}
+
+fn sign_extended(value: i32) -> u64
+    ensures { λ r. ⌜ r ≡ wordOf 64 value ⌝ }
+{
+    signs::word_64(value as i64)
 }
 
 // What writing a 32-bit word gives.

@@ -4,8 +4,6 @@
 use encode::EncodeResult;
 use wire_parts::asked::Asked;
 use wire_parts::asked::call_asked;
-use wire_parts::parts::refusal_number;
-use wire_parts::parts::refusal_value;
 
 // Operations beside the wire's: a heading, which has a label alone; and a call written to a lent run, whose length is word 15.
 const HEADING: u64 = 1000;
@@ -76,7 +74,7 @@ fn show_lent(w: [u64; 16]) {
             EncodeResult::Ok => {
                 io::write_all(1, b": accepted");
             }
-            EncodeResult::Err(error) => show_refusal(refusal_number(error), refusal_value(error)),
+            EncodeResult::Err(error) => show_refusal(error.number(), error.value()),
         },
         Asked::UnknownTag(tag) => show_refusal(1002, tag),
         Asked::WrongPart => show_refusal(1003, 0),

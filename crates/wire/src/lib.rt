@@ -14,8 +14,6 @@ use refusals::Error;
 use wire_parts::asked::Asked;
 use wire_parts::asked::call_asked;
 use wire_parts::parts::call_words;
-use wire_parts::parts::refusal_number;
-use wire_parts::parts::refusal_value;
 
 // A refusal's number and what it carries, or twice 0.
 #[repr(C)]
@@ -37,8 +35,8 @@ fn refusal_of(error: Error) -> Refusal
     ensures { λ r. ⌜ r ≡ refusalIs (refusalNumber error) (refusalValue error) ⌝ }
 {
     Refusal {
-        number: refusal_number(error),
-        carried: refusal_value(error),
+        number: error.number(),
+        carried: error.value(),
     }
 }
 

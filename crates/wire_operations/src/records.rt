@@ -10,8 +10,6 @@ use refusals::Error;
 use refusals::WordResult;
 use wire_parts::asked::differing_bits;
 use wire_parts::asked::low32;
-use wire_parts::parts::refusal_number;
-use wire_parts::parts::refusal_value;
 
 pub fn nine_in(w: [u64; 16]) -> [u64; 9]
     ensures { λ r. ⌜ r ≡ nineIn w ⌝ }
@@ -65,7 +63,7 @@ pub fn turned_back(w: [u64; 16], number: u64, carried: u64) -> [u64; 16]
 pub fn refused(w: [u64; 16], error: Error) -> [u64; 16]
     ensures { λ r. ⌜ r ≡ turnedBack w (refusalNumber error) (refusalValue error) ⌝ }
 {
-    turned_back(w, refusal_number(error), refusal_value(error))
+    turned_back(w, error.number(), error.value())
 }
 
 // Accepted, with nine words for the answer.

@@ -7,7 +7,6 @@ ghost use Rattle.function.specs.Functions.{entryForm, cookieForm, rangeForm, mp
 ghost use Rattle.words.specs.Mpidrs.{aff3Number};
 ghost use Rattle.encode.specs.Arguments.{cookieWord, baseWord, lengthWord, flagWord};
 ghost use Rattle.wire_parts.specs.Parts.{nine, formPart, mpidrParts, downPart, stateId, entryParts, cookieParts, rangeParts, vendorPart, vendorType, functionPlace, smcccPart, featurePlace, modePlace, hwStatePlace, codePlace, failurePart, failurePlace, mpidrWords, powerStateWords, entryWords, resetTypeWords, featureWords, versionWords, returnCodeWords, placeWords, errorWords, callWords};
-use bits::signs;
 use codes::ErrorCode;
 use codes::ReturnCode;
 use function::Function;
@@ -273,62 +272,6 @@ fn failure_place(return_code: ReturnCode) -> u64
     }
 }
 
-// Document 01's number of a refusal.
-pub fn refusal_number(error: Error) -> u64
-    ensures { λ r. ⌜ r ≡ refusalNumber error ⌝ }
-{
-    match error {
-        Error::UnrecognisedFunctionId(_) => 1,
-        Error::InvalidPowerState(_) => 2,
-        Error::InvalidMpidr32(_) => 3,
-        Error::InvalidMpidr64(_) => 4,
-        Error::InvalidLowerAffinityLevel(_) => 5,
-        Error::UnrecognisedSystemOff2Type(_) => 6,
-        Error::UnrecognisedSystemReset2Type(_) => 7,
-        Error::UnrecognisedSuspendMode(_) => 8,
-        Error::UnrecognisedErrorCode(_) => 9,
-        Error::OverflowingErrorCode(_) => 10,
-        Error::InvalidVersion(_) => 11,
-        Error::UnrecognisedHwState(_) => 12,
-        Error::IgnoredNonZeroAff3(_) => 13,
-        Error::MixedCallForms => 14,
-        Error::InvalidStateId(_) => 15,
-        Error::InvalidMajorVersion(_) => 16,
-        Error::WrongLength(_) => 17,
-    }
-}
-
-fn sign_extended(value: i32) -> u64
-    ensures { λ r. ⌜ r ≡ wordOf 64 value ⌝ }
-{
-    signs::word_64(value as i64)
-}
-
-// What a refusal carries, a signed number in two's complement.
-pub fn refusal_value(error: Error) -> u64
-    ensures { λ r. ⌜ r ≡ wordOf 64 (refusalValue error) ⌝ }
-{
-    match error {
-        Error::UnrecognisedFunctionId(value) => value as u64,
-        Error::InvalidPowerState(value) => value as u64,
-        Error::InvalidMpidr32(value) => value as u64,
-        Error::InvalidMpidr64(value) => value,
-        Error::InvalidLowerAffinityLevel(value) => value as u64,
-        Error::UnrecognisedSystemOff2Type(value) => value as u64,
-        Error::UnrecognisedSystemReset2Type(value) => value as u64,
-        Error::UnrecognisedSuspendMode(value) => value as u64,
-        Error::UnrecognisedErrorCode(value) => sign_extended(value),
-        Error::OverflowingErrorCode(value) => signs::word_64(value),
-        Error::InvalidVersion(value) => value as u64,
-        Error::UnrecognisedHwState(value) => value as u64,
-        Error::IgnoredNonZeroAff3(value) => value as u64,
-        Error::MixedCallForms => 0,
-        Error::InvalidStateId(value) => value as u64,
-        Error::InvalidMajorVersion(value) => value as u64,
-        Error::WrongLength(value) => value as u64,
-    }
-}
-
 // ---- the nine words
 
 fn mpidr_and(tag: u64, mpidr: Mpidr, a: u64, b: u64, c: u64) -> [u64; 9]
@@ -417,7 +360,7 @@ pub fn place_words(place: u64) -> [u64; 9]
 pub fn error_words(error: Error) -> [u64; 9]
     ensures { λ r. ⌜ r ≡ errorWords error ⌝ }
 {
-    three(0, refusal_number(error), refusal_value(error), 0)
+    three(0, error.number(), error.value(), 0)
 }
 
 // The words of a call.

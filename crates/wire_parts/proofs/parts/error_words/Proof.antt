@@ -11,4 +11,4 @@ error-words-spec =
     (λ c κs. search needs)
     (λ c κs. search needs)
     (λ c κs. search needs)
-    (λ c. simp (c .three .ensures, c .before .refusal-value .ensures, c .before .before .refusal-number .ensures)))
+    (λ c. simp (c .three .ensures, c .before .value .ensures, c .before .before .number .ensures)))
