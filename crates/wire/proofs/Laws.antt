@@ -8,10 +8,10 @@ use Rattle.function.specs.declared.Function.{Function}
 use Rattle.decode.specs.Decode.{decodeOf}
 use Rattle.encode.specs.Encode.{encodeOf, encodeAnswer, left}
 use Rattle.encode.specs.declared.EncodeResult.{EncodeResult}
-use Rattle.wire_parts.specs.Parts.{callWords}
+use Rattle.wire_call_words.specs.CallWords.{callWords}
+use Rattle.wire_call_asked.specs.CallAsked.{callAsked}
 use Rattle.wire.specs.Exports.{refusalIs, refusalIn, encodeWords}
 use Rattle.wire.specs.declared.Refusal.{Refusal}
-use Rattle.wire_parts.specs.Asked.{callAsked}
 
 module _ (regs out : List ℕ) where
   pub told-call : {f : Function} {r : Refusal} {c : List ℕ} → decodeOf regs ≡ accepted f → r ≡ refusalIs 0 (pos 0) → c ≡ callWords f →

@@ -5,7 +5,7 @@ use lib.IntN.{ℤ, pos}
 use Rattle.bits.specs.Signs.{wordOf}
 use Rattle.refusals.specs.Answers.{Answer, accepted, refused, andThen}
 use Rattle.encode.specs.Encode.{encodeOf}
-use Rattle.wire_parts.specs.Asked.{callAsked}
+use Rattle.wire_call_asked.specs.CallAsked.{callAsked}
 use Rattle.wire.specs.declared.Refusal.{Refusal}
 
 abbrev pub refusalIs : ℕ → ℤ → Refusal

@@ -6,14 +6,14 @@ ghost use Rattle.refusals.specs.Errors.{refusalNumber, refusalValue};
 ghost use Rattle.decode.specs.Decode.{decodeOf};
 ghost use Rattle.encode.specs.Encode.{left};
 ghost use Rattle.roundtrip.specs.Recode.{recodeOf};
-ghost use Rattle.wire_parts.specs.Parts.{callWords};
+ghost use Rattle.wire_call_words.specs.CallWords.{callWords};
 ghost use Rattle.wire.specs.Exports.{refusalIs, refusalIn, encodeWords};
 use encode::EncodeResult;
 use function::FunctionResult;
 use refusals::Error;
-use wire_parts::asked::Asked;
-use wire_parts::asked::call_asked;
-use wire_parts::parts::call_words;
+use wire_call_asked::Asked;
+use wire_call_asked::call_asked;
+use wire_call_words::call_words;
 
 // A refusal's number and what it carries, or twice 0.
 #[repr(C)]

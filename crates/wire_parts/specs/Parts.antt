@@ -1,7 +1,6 @@
 -- A value on the wire is nine words: a tag, its parts, then zeros. The tag of a call is its place in the enum Function, that of any other value is 0.
 -- A case of an enum without data is its place in the enum.
-use mathlib.Core.Bool.{Bool, true, false}
-use mathlib.Core.List.{List, [], _∷_, _++_}
+use mathlib.Core.List.{List, [], _∷_}
 use Prim.Native.Nat.{ℕ}
 use lib.ListN.{getD}
 use Rattle.refusals.specs.Errors.{refusalNumber, refusalValue}
@@ -26,17 +25,13 @@ use Rattle.words.specs.declared.power_states.PowerState.{PowerState}
 use Rattle.words.specs.declared.power_states.PowerState.the-variants.{StandbyOrRetention, PowerDown}
 use Rattle.words.specs.declared.psci_features.PsciFeature.{PsciFeature}
 use Rattle.words.specs.declared.psci_features.PsciFeature.the-variants.{PsciFunction, SmcccVersion}
-use Rattle.words.specs.declared.reset_types.ArchitecturalResetType.{ArchitecturalResetType}
 use Rattle.words.specs.declared.reset_types.ResetType.{ResetType}
 use Rattle.words.specs.declared.reset_types.ResetType.the-variants.{Architectural, VendorSpecific}
 use Rattle.words.specs.declared.suspend_modes.SuspendMode.{SuspendMode}
 use Rattle.words.specs.declared.suspend_modes.SuspendMode.the-variants.{PlatformCoordinated, OsInitiated}
-use Rattle.words.specs.declared.system_off2_types.SystemOff2Type.{SystemOff2Type}
 use Rattle.words.specs.declared.versions.Version.{Version}
 use Rattle.function.specs.Functions.{entryForm, cookieForm, rangeForm, mpidrForm}
-use Rattle.function.specs.declared.Function.{Function}
-use Rattle.function.specs.declared.Function.the-variants as call
-use Rattle.encode.specs.Arguments.{cookieWord, baseWord, lengthWord, flagWord}
+use Rattle.encode.specs.Arguments.{cookieWord, baseWord, lengthWord}
 
 -- the first nine of some words, and zeros for those that are lacking
 abbrev pub nine : List ℕ → List ℕ
@@ -195,27 +190,3 @@ placeWords place = nine (0 ∷ place ∷ [])
 -- a refusal: its number, and the value that it carries in two's complement of 64 bits
 abbrev pub errorWords : Error → List ℕ
 errorWords e = nine (0 ∷ refusalNumber e ∷ wordOf 64 (refusalValue e) ∷ [])
-
-unfoldable pub callWords : Function → List ℕ
-callWords call.Version = nine (0 ∷ [])
-callWords (call.CpuSuspend state entry) = nine (1 ∷ powerStateParts state ++ entryParts entry)
-callWords call.CpuOff = nine (2 ∷ [])
-callWords (call.CpuOn mpidr entry) = nine (3 ∷ mpidrParts mpidr ++ entryParts entry)
-callWords (call.AffinityInfo mpidr level) = nine (4 ∷ mpidrParts mpidr ++ level ∷ [])
-callWords (call.Migrate mpidr) = nine (5 ∷ mpidrParts mpidr)
-callWords call.MigrateInfoType = nine (6 ∷ [])
-callWords (call.MigrateInfoUpCpu is32bit) = nine (7 ∷ flagWord is32bit ∷ [])
-callWords call.SystemOff = nine (8 ∷ [])
-callWords (call.SystemOff2 offType cookie) = nine (9 ∷ 0 ∷ cookieParts cookie)
-callWords call.SystemReset = nine (10 ∷ [])
-callWords (call.SystemReset2 resetType cookie) = nine (11 ∷ resetTypeParts resetType ++ cookieParts cookie)
-callWords (call.MemProtect enabled) = nine (12 ∷ flagWord enabled ∷ [])
-callWords (call.MemProtectCheckRange range) = nine (13 ∷ rangeParts range)
-callWords (call.Features feature) = nine (14 ∷ featureParts feature)
-callWords call.CpuFreeze = nine (15 ∷ [])
-callWords (call.CpuDefaultSuspend entry) = nine (16 ∷ entryParts entry)
-callWords (call.NodeHwState mpidr level) = nine (17 ∷ mpidrParts mpidr ++ level ∷ [])
-callWords (call.SystemSuspend entry) = nine (18 ∷ entryParts entry)
-callWords (call.SetSuspendMode mode) = nine (19 ∷ modePlace mode ∷ [])
-callWords (call.StatResidency mpidr state) = nine (20 ∷ mpidrParts mpidr ++ powerStateParts state)
-callWords (call.StatCount mpidr state) = nine (21 ∷ mpidrParts mpidr ++ powerStateParts state)

@@ -1,7 +1,7 @@
 // One record for C, as for pipe and file: the operations of the codec on sixteen words.
 ghost use mathlib.Core.Path.{_≡_};
 ghost use lib.ListN.{getD};
-ghost use Rattle.wire_operations.specs.Records.{answerOf};
+ghost use Rattle.wire_operations.specs.Operations.{answerOf};
 
 #[repr(C)]
 pub struct Record {

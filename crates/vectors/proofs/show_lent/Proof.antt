@@ -62,11 +62,11 @@ write-all-requires c κs = search needs
 enum-known-error : tie.Need-enum-known-error
 enum-known-error c = search needs
 
-refusal-number-requires : tie.Need-refusal-number-requires
-refusal-number-requires c κs = search needs
+number-requires : tie.Need-number-requires
+number-requires c κs = search needs
 
-refusal-value-requires : tie.Need-refusal-value-requires
-refusal-value-requires c κs = search needs
+value-requires : tie.Need-value-requires
+value-requires c κs = search needs
 
 show-refusal-requires : tie.Need-show-refusal-requires
 show-refusal-requires c κs = search needs
@@ -112,8 +112,8 @@ show-lent-spec =
     slice-aggregate-write-all
     write-all-requires
     enum-known-error
-    refusal-number-requires
-    refusal-value-requires
+    number-requires
+    value-requires
     show-refusal-requires
     enum-known-tag
     show-refusal-requires-2

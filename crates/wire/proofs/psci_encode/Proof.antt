@@ -2,7 +2,7 @@
 -- Assumes nothing.
 use mathlib.Core.Path.{sym, ap, _∙_}
 use borrow.Author.Needs.{needs}
-use Rattle.wire_parts.specs.Asked.{askedAnswer}
+use Rattle.wire_call_asked.specs.CallAsked.{askedAnswer}
 use Rattle.wire.proofs.Laws.{told-asked, told-unasked}
 use Rattle.wire.proofs.psci_encode.Statement.{statement}
 use Rattle.wire.proofs.psci_encode.Tie as tie

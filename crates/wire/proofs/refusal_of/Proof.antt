@@ -10,4 +10,4 @@ refusal-of-spec =
     (tie.spec
     (λ c κs. search needs)
     (λ c κs. search needs)
-    (λ c. simp (c .refusal-value .ensures, c .before .refusal-number .ensures)))
+    (λ c. simp (c .value .ensures, c .before .number .ensures)))

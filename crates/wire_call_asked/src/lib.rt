@@ -1,0 +1,127 @@
+// The call that nine words stand for.
+ghost use mathlib.Core.Path.{_≡_};
+ghost use mathlib.Core.Bool.{not};
+ghost use lib.Dec.{eqb};
+ghost use lib.ListN.{getD};
+ghost use Rattle.wire_call_asked.specs.CallAsked.{callAt, callAsked, askedAnswer};
+use function::Function;
+use wire_asked::cookie_in;
+use wire_asked::differing_bits;
+use wire_asked::entry_in;
+use wire_asked::feature_in;
+use wire_asked::low32;
+use wire_asked::mode_in;
+use wire_asked::mpidr_in;
+use wire_asked::power_state_in;
+use wire_asked::range_in;
+use wire_asked::reset_type_in;
+use wire_call_words::call_words;
+use words::SystemOff2Type;
+
+// The call that words ask for, or what is wrong with them.
+pub enum Asked {
+    Call(Function),
+    UnknownTag(u64),
+    WrongPart,
+}
+
+fn is_set(part: u64) -> bool
+    ensures { λ r. ⌜ r ≡ not (eqb part 0) ⌝ }
+{
+    part != 0
+}
+
+// The call of a tag, its parts cut to their places.
+fn call_at(c: [u64; 9]) -> Asked
+    ensures { λ r. ⌜ askedAnswer r ≡ callAt c (getD c 0 0) ⌝ }
+{
+    let tag = c[0];
+    let p1 = c[1];
+    let p2 = c[2];
+    let p3 = c[3];
+    let p4 = c[4];
+    let p5 = c[5];
+    let p6 = c[6];
+    let p7 = c[7];
+    let p8 = c[8];
+    match tag {
+        0 => Asked::Call(Function::Version),
+        1 => Asked::Call(Function::CpuSuspend {
+            state: power_state_in(p1, p2),
+            entry: entry_in(p3, p4, p5),
+        }),
+        2 => Asked::Call(Function::CpuOff),
+        3 => Asked::Call(Function::CpuOn {
+            target_cpu: mpidr_in(c),
+            entry: entry_in(p6, p7, p8),
+        }),
+        4 => Asked::Call(Function::AffinityInfo {
+            mpidr: mpidr_in(c),
+            lowest_affinity_level: low32(p6),
+        }),
+        5 => Asked::Call(Function::Migrate {
+            target_affinity: mpidr_in(c),
+        }),
+        6 => Asked::Call(Function::MigrateInfoType),
+        7 => Asked::Call(Function::MigrateInfoUpCpu {
+            is_32bit: is_set(p1),
+        }),
+        8 => Asked::Call(Function::SystemOff),
+        9 => Asked::Call(Function::SystemOff2 {
+            off_type: SystemOff2Type::HibernateOff,
+            cookie: cookie_in(p2, p3),
+        }),
+        10 => Asked::Call(Function::SystemReset),
+        11 => Asked::Call(Function::SystemReset2 {
+            reset_type: reset_type_in(p1, p2),
+            cookie: cookie_in(p3, p4),
+        }),
+        12 => Asked::Call(Function::MemProtect {
+            enabled: is_set(p1),
+        }),
+        13 => Asked::Call(Function::MemProtectCheckRange {
+            range: range_in(p1, p2, p3),
+        }),
+        14 => Asked::Call(Function::Features {
+            psci_func_id: feature_in(p1, p2),
+        }),
+        15 => Asked::Call(Function::CpuFreeze),
+        16 => Asked::Call(Function::CpuDefaultSuspend {
+            entry: entry_in(p1, p2, p3),
+        }),
+        17 => Asked::Call(Function::NodeHwState {
+            target_cpu: mpidr_in(c),
+            power_level: low32(p6),
+        }),
+        18 => Asked::Call(Function::SystemSuspend {
+            entry: entry_in(p1, p2, p3),
+        }),
+        19 => Asked::Call(Function::SetSuspendMode { mode: mode_in(p1) }),
+        20 => Asked::Call(Function::StatResidency {
+            target_cpu: mpidr_in(c),
+            power_state: power_state_in(p6, p7),
+        }),
+        21 => Asked::Call(Function::StatCount {
+            target_cpu: mpidr_in(c),
+            power_state: power_state_in(p6, p7),
+        }),
+        _ => Asked::UnknownTag(tag),
+    }
+}
+
+// The call whose nine words these are.
+pub fn call_asked(c: [u64; 9]) -> Asked
+    ensures { λ r. ⌜ askedAnswer r ≡ callAsked c ⌝ }
+{
+    match call_at(c) {
+        Asked::Call(function) => {
+            if differing_bits(c, call_words(function)) == 0 {
+                Asked::Call(function)
+            } else {
+                Asked::WrongPart
+            }
+        }
+        Asked::UnknownTag(tag) => Asked::UnknownTag(tag),
+        Asked::WrongPart => Asked::WrongPart,
+    }
+}

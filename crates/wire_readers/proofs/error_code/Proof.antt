@@ -1,0 +1,18 @@
+-- `wire_readers::error_code` meets its contract.
+-- Assumes nothing.
+use borrow.Author.Needs.{needs}
+use Rattle.wire_readers.proofs.error_code.Statement.{statement}
+use Rattle.wire_readers.proofs.error_code.Tie as tie
+
+pub error-code-spec : {M : Type 1} → statement M
+error-code-spec =
+    tie.close
+    (tie.spec
+    (λ c. search needs)
+    (λ c κs. search needs)
+    (λ c κs. search needs)
+    (λ c κs. search needs)
+    (λ c. search needs)
+    (λ c κs. search needs)
+    (λ c. simp (c .given .ensures, c .before .place-words .ensures, c .before .before .code-place .ensures, c .before .before .before .before .read .given .1))
+    (λ c. simp (c .refused .ensures, c .before .before .read2 .given .1)))
