@@ -1,8 +1,6 @@
 // Replays the Rust's answers: records of 16 big-endian words of 64 bits on standard input. Each question is asked anew, with every word
 // that its answer writes made wrong first, and the whole record is compared. Prints how many records it saw and how many differed; bytes
 // that are left over count as one record that differs.
-ghost use Prim.Native.Nat.{_≤_};
-
 pub struct Tally {
     pub seen: u64,
     pub differed: u64,
@@ -12,107 +10,44 @@ pub struct Tally {
 // Turned in every word that an answer writes.
 const WRONG: u64 = 0xa5a5_5a5a_c3c3_3c3c;
 
-fn wide(x: u8) -> u64 {
-    x as u64
+// Whether the answer to an operation writes the word at a place: a refusal writes its number and what it carries; decode and the readers
+// write nine words; encode writes four registers, every other operation one.
+fn is_written(op: u64, refused: bool, place: usize) -> bool {
+    if 14 <= place {
+        return true;
+    }
+    if refused || place == 0 {
+        return false;
+    }
+    if op == 1 || op == 2 || 48 <= op {
+        place == 10 || (op == 1 && 10 < place)
+    } else {
+        place < 10
+    }
 }
 
-// The word of eight bytes, the highest first. A shift and an or ask for no proof that nothing overflows.
-fn word(a: u8, b: u8, c: u8, d: u8, e: u8, f: u8, g: u8, h: u8) -> u64 {
-    (wide(a) << 56)
-        | (wide(b) << 48)
-        | (wide(c) << 40)
-        | (wide(d) << 32)
-        | (wide(e) << 24)
-        | (wide(f) << 16)
-        | (wide(g) << 8)
-        | wide(h)
-}
-
-fn word_at(s: &[u8; 128], at: usize) -> u64
-    requires { ⌜ at ≤ 120 ⌝ }
-{
-    word(
-        s[at],
-        s[at + 1],
-        s[at + 2],
-        s[at + 3],
-        s[at + 4],
-        s[at + 5],
-        s[at + 6],
-        s[at + 7],
-    )
-}
-
-fn words(s: &[u8; 128]) -> [u64; 16] {
-    [
-        word_at(s, 0),
-        word_at(s, 8),
-        word_at(s, 16),
-        word_at(s, 24),
-        word_at(s, 32),
-        word_at(s, 40),
-        word_at(s, 48),
-        word_at(s, 56),
-        word_at(s, 64),
-        word_at(s, 72),
-        word_at(s, 80),
-        word_at(s, 88),
-        word_at(s, 96),
-        word_at(s, 104),
-        word_at(s, 112),
-        word_at(s, 120),
-    ]
-}
-
-// The question of an answered record: a refusal writes its number and what it carries; decode and the readers write nine words;
-// encode writes four registers, every other operation one.
+// The question of an answered record.
 fn question(w: [u64; 16]) -> [u64; 16] {
     let op = w[0];
     let refused = w[14] != 0;
-    let nine = if refused || op == 1 || op == 2 || 48 <= op {
-        0
-    } else {
-        WRONG
-    };
-    let first = if refused || nine != 0 { 0 } else { WRONG };
-    let rest = if refused || op != 1 { 0 } else { WRONG };
-    [
-        op,
-        w[1] ^ nine,
-        w[2] ^ nine,
-        w[3] ^ nine,
-        w[4] ^ nine,
-        w[5] ^ nine,
-        w[6] ^ nine,
-        w[7] ^ nine,
-        w[8] ^ nine,
-        w[9] ^ nine,
-        w[10] ^ first,
-        w[11] ^ rest,
-        w[12] ^ rest,
-        w[13] ^ rest,
-        w[14] ^ WRONG,
-        w[15] ^ WRONG,
-    ]
+    let mut asked = w;
+    let mut i = 0;
+    while i < 16 {
+        if is_written(op, refused, i) {
+            asked[i] = w[i] ^ WRONG;
+        }
+        i += 1;
+    }
+    asked
 }
 
 fn is_same(a: [u64; 16], b: [u64; 16]) -> bool {
-    let turned = (a[0] ^ b[0])
-        | (a[1] ^ b[1])
-        | (a[2] ^ b[2])
-        | (a[3] ^ b[3])
-        | (a[4] ^ b[4])
-        | (a[5] ^ b[5])
-        | (a[6] ^ b[6])
-        | (a[7] ^ b[7])
-        | (a[8] ^ b[8])
-        | (a[9] ^ b[9])
-        | (a[10] ^ b[10])
-        | (a[11] ^ b[11])
-        | (a[12] ^ b[12])
-        | (a[13] ^ b[13])
-        | (a[14] ^ b[14])
-        | (a[15] ^ b[15]);
+    let mut turned = 0;
+    let mut i = 0;
+    while i < 16 {
+        turned = turned | (a[i] ^ b[i]);
+        i += 1;
+    }
     turned == 0
 }
 
@@ -145,7 +80,7 @@ fn step(t: Tally) -> Tally {
     if got != 128 {
         return counted(t, false, false);
     }
-    let w = words(&buf);
+    let w = wire_bytes::words_of(&buf);
     counted(t, is_same(wire_operations::answer(question(w)), w), true)
 }
 
