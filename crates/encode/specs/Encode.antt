@@ -11,7 +11,7 @@ use Rattle.function_ids.specs.FunctionIds.{functionNumber}
 use Rattle.function_ids.specs.declared.FunctionId.{FunctionId}
 use Rattle.function.specs.Functions.{functionIdOf}
 use Rattle.function.specs.declared.Function.{Function}
-use Rattle.encode.specs.Arguments.{argumentsOf}
+use Rattle.arguments.specs.Arguments.{argumentsOf}
 use Rattle.encode.specs.declared.EncodeResult.{EncodeResult}
 use Rattle.encode.specs.declared.EncodeResult.the-variants.{Ok, Err}
 

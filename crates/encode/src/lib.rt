@@ -4,9 +4,6 @@ ghost use mathlib.Core.List.{_∷_, []};
 ghost use lib.ListN.{length};
 ghost use Rattle.function_ids.specs.FunctionIds.{functionNumber};
 ghost use Rattle.encode.specs.Encode.{encodeAnswer, encodeOf, left};
-
-mod arguments;
-
 use arguments::Arguments;
 use arguments::ArgumentsResult;
 use arguments::argument_words;

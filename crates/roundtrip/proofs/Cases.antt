@@ -9,7 +9,7 @@ use Rattle.words.specs.ResetTypes.{readArchitecturalResetType, readResetType}
 use Rattle.words.specs.Versions.{readVersion}
 use Rattle.function.specs.Functions.{functionIdOf}
 use Rattle.decode.specs.Decode.{callIn, decodeOf}
-use Rattle.encode.specs.Arguments.{argumentsOf}
+use Rattle.arguments.specs.Arguments.{argumentsOf}
 use Rattle.encode.specs.Encode.{wordsOf}
 use Rattle.roundtrip.specs.Cases.{Cases}
 

@@ -24,7 +24,7 @@ use Rattle.function.specs.declared.Function.{Function}
 use Rattle.function.specs.declared.Function.the-variants.{AffinityInfo}
 use Rattle.calls.specs.Calls.{affinityInfo, ofCoreState}
 use Rattle.decode.specs.Decode.{callOf}
-use Rattle.encode.specs.Arguments.{argumentsOf}
+use Rattle.arguments.specs.Arguments.{argumentsOf}
 use Rattle.encode.specs.Encode.{wordsOf}
 
 -- what is accepted is written as these words

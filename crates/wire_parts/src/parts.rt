@@ -2,7 +2,7 @@
 ghost use mathlib.Core.Path.{_≡_};
 ghost use Rattle.function.specs.Functions.{entryForm, cookieForm, rangeForm, mpidrForm};
 ghost use Rattle.words.specs.Mpidrs.{aff3Number};
-ghost use Rattle.encode.specs.Arguments.{cookieWord, baseWord, lengthWord, flagWord};
+ghost use Rattle.arguments.specs.Arguments.{cookieWord, baseWord, lengthWord, flagWord};
 ghost use Rattle.wire_parts.specs.Parts.{formPart, downPart, stateId, vendorPart, vendorType, smcccPart, featurePlace, failurePart, failurePlace};
 use crate::places::code_place;
 use crate::places::function_place;

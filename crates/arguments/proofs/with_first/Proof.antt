@@ -1,8 +1,8 @@
 -- `encode::arguments::with_first` meets its contract.
 -- Assumes nothing.
 use borrow.Author.Needs.{needs}
-use Rattle.encode.proofs.arguments.with_first.Statement.{statement}
-use Rattle.encode.proofs.arguments.with_first.Tie as tie
+use Rattle.arguments.proofs.with_first.Statement.{statement}
+use Rattle.arguments.proofs.with_first.Tie as tie
 
 pub with-first-spec : {M : Type 1} → statement M
 with-first-spec =

@@ -17,9 +17,9 @@ use Rattle.words.specs.declared.mem_protect_ranges.MemProtectRange.{MemProtectR
 use Rattle.words.specs.declared.mem_protect_ranges.MemProtectRange.the-variants.{Range32, Range64}
 use Rattle.function.specs.declared.Function.{Function}
 use Rattle.function.specs.declared.Function.the-variants.{Version, CpuSuspend, CpuOff, CpuOn, AffinityInfo, Migrate, MigrateInfoType, MigrateInfoUpCpu, SystemOff, SystemOff2, SystemReset, SystemReset2, MemProtect, MemProtectCheckRange, Features, CpuFreeze, CpuDefaultSuspend, NodeHwState, SystemSuspend, SetSuspendMode, StatResidency, StatCount}
-use Rattle.encode.specs.declared.arguments.Arguments.{Arguments}
-use Rattle.encode.specs.declared.arguments.ArgumentsResult.{ArgumentsResult}
-use Rattle.encode.specs.declared.arguments.ArgumentsResult.the-variants.{Ok, Err}
+use Rattle.arguments.specs.declared.Arguments.{Arguments}
+use Rattle.arguments.specs.declared.ArgumentsResult.{ArgumentsResult}
+use Rattle.arguments.specs.declared.ArgumentsResult.the-variants.{Ok, Err}
 
 abbrev pub argumentsAnswer : ArgumentsResult → Answer (List ℕ)
 argumentsAnswer (Ok a) = accepted (a .r1 ∷ a .r2 ∷ a .r3 ∷ [])

@@ -1,9 +1,9 @@
 -- `encode::arguments::argument_words` meets its contract.
 -- Assumes nothing.
 use borrow.Author.Needs.{needs}
-use Rattle.encode.specs.Arguments.{argumentsOf}
-use Rattle.encode.proofs.arguments.argument_words.Statement.{statement}
-use Rattle.encode.proofs.arguments.argument_words.Tie as tie
+use Rattle.arguments.specs.Arguments.{argumentsOf}
+use Rattle.arguments.proofs.argument_words.Statement.{statement}
+use Rattle.arguments.proofs.argument_words.Tie as tie
 
 pub argument-words-spec : {M : Type 1} → statement M
 unfolding argumentsOf

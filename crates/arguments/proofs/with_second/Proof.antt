@@ -1,8 +1,8 @@
 -- `encode::arguments::with_second` meets its contract.
 -- Assumes nothing.
 use borrow.Author.Needs.{needs}
-use Rattle.encode.proofs.arguments.with_second.Statement.{statement}
-use Rattle.encode.proofs.arguments.with_second.Tie as tie
+use Rattle.arguments.proofs.with_second.Statement.{statement}
+use Rattle.arguments.proofs.with_second.Tie as tie
 
 pub with-second-spec : {M : Type 1} → statement M
 with-second-spec =

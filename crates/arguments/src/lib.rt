@@ -1,8 +1,9 @@
+// The argument words of a call.
 ghost use mathlib.Core.Path.{_≡_};
 ghost use mathlib.Core.List.{_∷_, []};
 ghost use Rattle.refusals.specs.Answers.{accepted, through};
 ghost use Rattle.refusals.specs.Errors.{wordAnswer};
-ghost use Rattle.encode.specs.Arguments.{argumentsAnswer, argumentsOf, cookieWord, baseWord, lengthWord, flagWord};
+ghost use Rattle.arguments.specs.Arguments.{argumentsAnswer, argumentsOf, cookieWord, baseWord, lengthWord, flagWord};
 use function::Function;
 use refusals::Error;
 use refusals::WordResult;
