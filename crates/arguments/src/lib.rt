@@ -121,7 +121,7 @@ fn wide(word: u32) -> u64
     word as u64
 }
 
-fn cookie_word(cookie: Cookie) -> u64
+pub fn cookie_word(cookie: Cookie) -> u64
     ensures { λ r. ⌜ r ≡ cookieWord cookie ⌝ }
 {
     match cookie {
@@ -130,7 +130,7 @@ fn cookie_word(cookie: Cookie) -> u64
     }
 }
 
-fn base_word(range: MemProtectRange) -> u64
+pub fn base_word(range: MemProtectRange) -> u64
     ensures { λ r. ⌜ r ≡ baseWord range ⌝ }
 {
     match range {
@@ -139,7 +139,7 @@ fn base_word(range: MemProtectRange) -> u64
     }
 }
 
-fn length_word(range: MemProtectRange) -> u64
+pub fn length_word(range: MemProtectRange) -> u64
     ensures { λ r. ⌜ r ≡ lengthWord range ⌝ }
 {
     match range {
@@ -148,7 +148,7 @@ fn length_word(range: MemProtectRange) -> u64
     }
 }
 
-fn flag_word(enabled: bool) -> u64
+pub fn flag_word(enabled: bool) -> u64
     ensures { λ r. ⌜ r ≡ flagWord enabled ⌝ }
 {
     if enabled { 1 } else { 0 }

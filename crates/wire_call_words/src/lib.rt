@@ -1,18 +1,18 @@
 // A call as nine words.
 ghost use mathlib.Core.Path.{_≡_};
 ghost use Rattle.wire_call_words.specs.CallWords.{callWords};
+use arguments::base_word;
+use arguments::cookie_word;
+use arguments::flag_word;
+use arguments::length_word;
 use function::Function;
 use wire_parts::entry_of;
 use wire_parts::mpidr_and;
 use wire_parts::parts::cookie_form;
-use wire_parts::parts::cookie_word;
 use wire_parts::parts::down;
 use wire_parts::parts::entry_form;
 use wire_parts::parts::feature_place;
-use wire_parts::parts::flag;
-use wire_parts::parts::range_base;
 use wire_parts::parts::range_form;
-use wire_parts::parts::range_length;
 use wire_parts::parts::smccc;
 use wire_parts::parts::state_id;
 use wire_parts::parts::vendor;
@@ -52,7 +52,7 @@ pub fn call_words(function: Function) -> [u64; 9]
         } => mpidr_and(4, mpidr, wide32(lowest_affinity_level), 0, 0),
         Function::Migrate { target_affinity } => mpidr_and(5, target_affinity, 0, 0, 0),
         Function::MigrateInfoType => three(6, 0, 0, 0),
-        Function::MigrateInfoUpCpu { is_32bit } => three(7, flag(is_32bit), 0, 0),
+        Function::MigrateInfoUpCpu { is_32bit } => three(7, flag_word(is_32bit), 0, 0),
         Function::SystemOff => three(8, 0, 0, 0),
         Function::SystemOff2 {
             off_type: _,
@@ -70,12 +70,12 @@ pub fn call_words(function: Function) -> [u64; 9]
             0,
             0,
         ],
-        Function::MemProtect { enabled } => three(12, flag(enabled), 0, 0),
+        Function::MemProtect { enabled } => three(12, flag_word(enabled), 0, 0),
         Function::MemProtectCheckRange { range } => three(
             13,
             range_form(range),
-            range_base(range),
-            range_length(range),
+            base_word(range),
+            length_word(range),
         ),
         Function::Features { psci_func_id } => three(
             14,

@@ -2,7 +2,6 @@
 ghost use mathlib.Core.Path.{_≡_};
 ghost use Rattle.function.specs.Functions.{entryForm, cookieForm, rangeForm, mpidrForm};
 ghost use Rattle.words.specs.Mpidrs.{aff3Number};
-ghost use Rattle.arguments.specs.Arguments.{cookieWord, baseWord, lengthWord, flagWord};
 ghost use Rattle.wire_parts.specs.Parts.{formPart, downPart, stateId, vendorPart, vendorType, smcccPart, featurePlace, failurePart, failurePlace};
 use crate::places::code_place;
 use crate::places::function_place;
@@ -32,12 +31,6 @@ pub fn wide32(word: u32) -> u64
     ensures { λ r. ⌜ r ≡ word ⌝ }
 {
     word as u64
-}
-
-pub fn flag(set: bool) -> u64
-    ensures { λ r. ⌜ r ≡ flagWord set ⌝ }
-{
-    if set { 1 } else { 0 }
 }
 
 pub fn mpidr_form(mpidr: Mpidr) -> u64
@@ -96,39 +89,12 @@ pub fn cookie_form(cookie: Cookie) -> u64
     }
 }
 
-pub fn cookie_word(cookie: Cookie) -> u64
-    ensures { λ r. ⌜ r ≡ cookieWord cookie ⌝ }
-{
-    match cookie {
-        Cookie::Cookie32(word) => word as u64,
-        Cookie::Cookie64(word) => word,
-    }
-}
-
 pub fn range_form(range: MemProtectRange) -> u64
     ensures { λ r. ⌜ r ≡ formPart (rangeForm range) ⌝ }
 {
     match range {
         MemProtectRange::Range32 { .. } => 0,
         MemProtectRange::Range64 { .. } => 1,
-    }
-}
-
-pub fn range_base(range: MemProtectRange) -> u64
-    ensures { λ r. ⌜ r ≡ baseWord range ⌝ }
-{
-    match range {
-        MemProtectRange::Range32 { base, length: _ } => base as u64,
-        MemProtectRange::Range64 { base, length: _ } => base,
-    }
-}
-
-pub fn range_length(range: MemProtectRange) -> u64
-    ensures { λ r. ⌜ r ≡ lengthWord range ⌝ }
-{
-    match range {
-        MemProtectRange::Range32 { base: _, length } => length as u64,
-        MemProtectRange::Range64 { base: _, length } => length,
     }
 }
 
