@@ -10,17 +10,18 @@ ghost use Rattle.words.specs.ResetTypes.{resetTypeAnswer};
 ghost use Rattle.words.specs.SuspendModes.{suspendModeAnswer};
 ghost use Rattle.words.specs.SystemOff2Types.{systemOff2Answer};
 ghost use Rattle.function.specs.Functions.{functionAnswer};
-ghost use Rattle.function.specs.declared.Function.the-variants.{CpuSuspend, CpuOn, Migrate, MigrateInfoUpCpu, SystemOff2, SystemReset2, MemProtect, MemProtectCheckRange, Features, CpuDefaultSuspend, NodeHwState, SystemSuspend, SetSuspendMode, StatResidency, StatCount};
+ghost use Rattle.function.specs.declared.Function.the-variants.{CpuSuspend, CpuOn, Migrate, SystemOff2, SystemReset2, MemProtect, Features, NodeHwState, SetSuspendMode, StatResidency, StatCount};
 ghost use Rattle.calls.specs.Calls.{affinityInfo, ofCoreState};
 use function::Function;
 use function::FunctionResult;
 use refusals::Error;
 use words::Cookie;
 use words::EntryPoint;
-use words::MemProtectRange;
 use words::MpidrResult;
+use words::PowerState;
 use words::PowerStateResult;
 use words::PsciFeatureResult;
+use words::ResetType;
 use words::ResetTypeResult;
 use words::SuspendModeResult;
 use words::SystemOff2TypeResult;
@@ -43,11 +44,22 @@ pub fn entry64(entry_point_address: u64, context_id: u64) -> EntryPoint
     }
 }
 
+// The state is made anew for each type: a copy of its eight bytes would be one store across what are two fields in other calls, and the
+// compiler would then keep all of them in memory until the end (docs/BENCHMARKS.md).
 pub fn cpu_suspend(state: PowerStateResult, entry: EntryPoint) -> FunctionResult
     ensures { λ r. ⌜ functionAnswer r ≡ through (λ s. CpuSuspend s entry) (powerStateAnswer state) ⌝ }
 {
     match state {
-        PowerStateResult::Ok(state) => FunctionResult::Ok(Function::CpuSuspend { state, entry }),
+        PowerStateResult::Ok(state) => match state {
+            PowerState::StandbyOrRetention(state_id) => FunctionResult::Ok(Function::CpuSuspend {
+                state: PowerState::StandbyOrRetention(state_id),
+                entry,
+            }),
+            PowerState::PowerDown(state_id) => FunctionResult::Ok(Function::CpuSuspend {
+                state: PowerState::PowerDown(state_id),
+                entry,
+            }),
+        },
         PowerStateResult::Err(error) => FunctionResult::Err(error),
     }
 }
@@ -88,12 +100,6 @@ pub fn migrate(mpidr: MpidrResult) -> FunctionResult
     }
 }
 
-pub fn migrate_info_up_cpu(is_32bit: bool) -> FunctionResult
-    ensures { λ r. ⌜ functionAnswer r ≡ accepted (MigrateInfoUpCpu «is_32bit») ⌝ }
-{
-    FunctionResult::Ok(Function::MigrateInfoUpCpu { is_32bit })
-}
-
 pub fn features(feature: PsciFeatureResult) -> FunctionResult
     ensures { λ r. ⌜ functionAnswer r ≡ through Features (featureAnswer feature) ⌝ }
 {
@@ -103,12 +109,6 @@ pub fn features(feature: PsciFeatureResult) -> FunctionResult
         }),
         PsciFeatureResult::Err(error) => FunctionResult::Err(error),
     }
-}
-
-pub fn cpu_default_suspend(entry: EntryPoint) -> FunctionResult
-    ensures { λ r. ⌜ functionAnswer r ≡ accepted (CpuDefaultSuspend entry) ⌝ }
-{
-    FunctionResult::Ok(Function::CpuDefaultSuspend { entry })
 }
 
 pub fn node_hw_state(mpidr: MpidrResult, power_level: u32) -> FunctionResult
@@ -121,12 +121,6 @@ pub fn node_hw_state(mpidr: MpidrResult, power_level: u32) -> FunctionResult
         }),
         MpidrResult::Err(error) => FunctionResult::Err(error),
     }
-}
-
-pub fn system_suspend(entry: EntryPoint) -> FunctionResult
-    ensures { λ r. ⌜ functionAnswer r ≡ accepted (SystemSuspend entry) ⌝ }
-{
-    FunctionResult::Ok(Function::SystemSuspend { entry })
 }
 
 pub fn set_suspend_mode(mode: SuspendModeResult) -> FunctionResult
@@ -168,14 +162,22 @@ pub fn stat_count(mpidr: MpidrResult, state: PowerStateResult) -> FunctionResult
     }
 }
 
+// The type is made anew for each kind, as a power state is in `cpu_suspend`.
 pub fn system_reset2(reset_type: ResetTypeResult, cookie: Cookie) -> FunctionResult
     ensures { λ r. ⌜ functionAnswer r ≡ through (λ t. SystemReset2 t cookie) (resetTypeAnswer «reset_type») ⌝ }
 {
     match reset_type {
-        ResetTypeResult::Ok(reset_type) => FunctionResult::Ok(Function::SystemReset2 {
-            reset_type,
-            cookie,
-        }),
+        ResetTypeResult::Ok(reset_type) => match reset_type {
+            ResetType::Architectural(architectural) => FunctionResult::Ok(Function::SystemReset2 {
+                reset_type: ResetType::Architectural(architectural),
+                cookie,
+            }),
+            ResetType::VendorSpecific(vendor_specific) =>
+                FunctionResult::Ok(Function::SystemReset2 {
+                    reset_type: ResetType::VendorSpecific(vendor_specific),
+                    cookie,
+                }),
+        },
         ResetTypeResult::Err(error) => FunctionResult::Err(error),
     }
 }
@@ -188,22 +190,6 @@ pub fn mem_protect(r1: u64) -> FunctionResult
     } else {
         FunctionResult::Ok(Function::MemProtect { enabled: true })
     }
-}
-
-pub fn range32(base: u32, length: u32) -> FunctionResult
-    ensures { λ r. ⌜ functionAnswer r ≡ accepted (MemProtectCheckRange (MemProtectRange.Range32 base length)) ⌝ }
-{
-    FunctionResult::Ok(Function::MemProtectCheckRange {
-        range: MemProtectRange::Range32 { base, length },
-    })
-}
-
-pub fn range64(base: u64, length: u64) -> FunctionResult
-    ensures { λ r. ⌜ functionAnswer r ≡ accepted (MemProtectCheckRange (MemProtectRange.Range64 base length)) ⌝ }
-{
-    FunctionResult::Ok(Function::MemProtectCheckRange {
-        range: MemProtectRange::Range64 { base, length },
-    })
 }
 
 pub fn system_off2(off_type: SystemOff2TypeResult, cookie: Cookie) -> FunctionResult

@@ -5,29 +5,36 @@ use mathlib.Core.List.{List, [], _∷_}
 use Prim.Native.Nat.{ℕ, _%_, _^_}
 use native.Mathlib.Nat.{mod-mod}
 use lib.Dec.{eqb}
-use lib.IntN.{ℤ}
+use lib.IntN.{pos}
 use lib.ListN.{getD}
 use Rattle.refusals.specs.Answers.{Answer, accepted, refused}
-use Rattle.function_ids.specs.CallTable.{numberIn}
-use Rattle.function_ids.specs.FunctionIds.{functionNumber, readFunctionId}
-use Rattle.function_ids.proofs.Table.{function-number}
+use Rattle.refusals.proofs.Choosing.{NoneOf, none-chosen}
+use Rattle.function_ids.specs.CallTable.{ruleOf, kept, valueIn, numberIn}
+use Rattle.function_ids.specs.FunctionIds.{functionNumber, functions, readFunctionId}
+use Rattle.function_ids.proofs.Table.{function-back}
 use Rattle.function_ids.specs.declared.FunctionId.{FunctionId}
-use Rattle.decode.specs.Decode.{callIn, decodeOf, knownOf}
+use Rattle.function.specs.declared.Function.{Function}
+use Rattle.decode.specs.Decode.{callOf, callIn, decodeOf}
 
 -- a test for zero that is kept as 0 or 1 is still that test
 pub zero-kept : (t : Bool) → eqb (cond t 0 1) 0 ≡ t
 zero-kept true = refl
 zero-kept false = refl
 
--- a set whose number is known is decoded as that function's registers
-pub known-is : (regs : List ℕ) (id : FunctionId) → readFunctionId (numberIn regs) ≡ accepted id →
+-- the call of a known function by its three argument registers
+unfoldable pub knownOf : FunctionId → ℕ → ℕ → ℕ → Answer Function
+knownOf id r1 r2 r3 = callOf id (valueIn (ruleOf (functionNumber id) .fields) (kept (functionNumber id ∷ r1 ∷ r2 ∷ r3 ∷ [])))
+
+-- a set that has a function's number is decoded as that function's registers
+pub known-is : (id : FunctionId) (regs : List ℕ) → numberIn regs ≡ functionNumber id →
     knownOf id (getD regs 1 0) (getD regs 2 0) (getD regs 3 0) ≡ decodeOf regs
 unfolding knownOf decodeOf callIn
-known-is regs id e =
-    let p : functionNumber id ≡ numberIn regs = function-number (numberIn regs) id e in
-    simp (e, p, mod-mod)
+known-is id regs p =
+    let q : readFunctionId (numberIn regs) ≡ accepted id = ap readFunctionId p ∙ function-back id in
+    simp (q, sym p, mod-mod)
 
--- a set whose number is not known is refused as the number is
-pub unknown-is : (regs : List ℕ) (number : ℕ) (value : ℤ) → readFunctionId (numberIn regs) ≡ refused number value → refused number value ≡ decodeOf regs
-unfolding decodeOf callIn
-unknown-is regs number value e = simp e
+-- a set that has no function's number is refused with its number
+pub unknown-is : (regs : List ℕ) → NoneOf functionNumber (refused 1 (pos (numberIn regs))) (λ x. x) (numberIn regs) Unit functions →
+    refused 1 (pos (numberIn regs)) ≡ decodeOf regs
+unfolding decodeOf callIn readFunctionId
+unknown-is regs none = simp (sym (none-chosen functionNumber (refused 1 (pos (numberIn regs))) (λ x. x) (numberIn regs) functions none))

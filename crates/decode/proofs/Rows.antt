@@ -1,10 +1,13 @@
--- The call of each function by its registers, worked out from the table of calls: what `known` computes. Assumes nothing.
-use mathlib.Core.Path.{_≡_, refl, ap}
+-- The call of each function by its registers, worked out from the table of calls: what each arm of `decode` computes. Assumes nothing.
+use mathlib.Core.Path.{_≡_, refl, ap, sym, _∙_}
 use mathlib.Core.Bool.{Bool, true, false, not}
+use mathlib.Core.List.{List}
 use Prim.Native.Nat.{ℕ, _%_, _^_}
 use lib.Dec.{eqb}
+use lib.ListN.{getD}
 use Rattle.refusals.specs.Answers.{Answer, accepted, through}
-use Rattle.function_ids.specs.CallTable.{ruleOf}
+use Rattle.function_ids.specs.CallTable.{ruleOf, numberIn}
+use Rattle.function_ids.specs.FunctionIds.{functionNumber}
 use Rattle.function_ids.specs.declared.FunctionId.{FunctionId}
 use Rattle.function_ids.specs.declared.FunctionId.the-variants as id
 use Rattle.words.specs.Mpidrs.{readMpidr32, readMpidr64}
@@ -19,8 +22,8 @@ use Rattle.words.specs.declared.mem_protect_ranges.MemProtectRange.the-variants
 use Rattle.function.specs.declared.Function.{Function}
 use Rattle.function.specs.declared.Function.the-variants.{Version, CpuSuspend, CpuOff, CpuOn, AffinityInfo, Migrate, MigrateInfoType, MigrateInfoUpCpu, SystemOff, SystemOff2, SystemReset, SystemReset2, MemProtect, MemProtectCheckRange, Features, CpuFreeze, CpuDefaultSuspend, NodeHwState, SystemSuspend, SetSuspendMode, StatResidency, StatCount}
 use Rattle.calls.specs.Calls.{affinityInfo, ofCoreState}
-use Rattle.decode.specs.Decode.{knownOf}
-use Rattle.decode.proofs.Laws.{zero-kept}
+use Rattle.decode.specs.Decode.{decodeOf}
+use Rattle.decode.proofs.Laws.{zero-kept, knownOf, known-is}
 
 -- the low 32 bits
 abbrev low : ℕ → ℕ
@@ -100,3 +103,8 @@ known-row id.MemProtectCheckRange32 r1 r2 r3 = refl
 known-row id.MemProtectCheckRange64 r1 r2 r3 = refl
 known-row id.SystemOff232 r1 r2 r3 = refl
 known-row id.SystemOff264 r1 r2 r3 = refl
+
+-- an answer that is a function's row is what the registers with that function's number decode to
+pub decoded : (id : FunctionId) (regs : List ℕ) → numberIn regs ≡ functionNumber id → (answer : Answer Function) →
+    answer ≡ rowCall id (getD regs 1 0) (getD regs 2 0) (getD regs 3 0) → answer ≡ decodeOf regs
+decoded id regs p answer q = q ∙ sym (known-row id _ _ _) ∙ known-is id regs p

@@ -1,13 +1,13 @@
 -- Document 01, "The typed call" and "What is turned back": decoding, for every four registers. Where each field stands and which bits it
 -- takes is said by the table of calls alone; here it is asked for by its kind.
 use mathlib.Core.Bool.{true, false, not}
-use mathlib.Core.List.{List, [], _∷_}
+use mathlib.Core.List.{List}
 use Prim.Native.Nat.{ℕ}
 use lib.Dec.{eqb}
 use lib.ListN.{getD}
 use Rattle.refusals.specs.Answers.{Answer, accepted, through, andThen}
 use Rattle.function_ids.specs.CallTable.{Kind, powerState, entry, context, mpidr, level, feature, mode, resetType, offType, cookie, rangeBase, rangeLength, memoryProtect, ruleOf, kept, valueIn}
-use Rattle.function_ids.specs.FunctionIds.{functionNumber, readFunctionId}
+use Rattle.function_ids.specs.FunctionIds.{readFunctionId}
 use Rattle.function_ids.specs.declared.FunctionId.{FunctionId}
 use Rattle.function_ids.specs.declared.FunctionId.the-variants as id
 use Rattle.words.specs.Mpidrs.{readMpidr32, readMpidr64}
@@ -67,7 +67,3 @@ callIn words = andThen (readFunctionId (getD words 0 0)) (λ id. callOf id (valu
 
 unfoldable pub decodeOf : List ℕ → Answer Function
 decodeOf regs = callIn (kept regs)
-
--- the same for a known function: the call of its number and three argument registers
-unfoldable pub knownOf : FunctionId → ℕ → ℕ → ℕ → Answer Function
-knownOf id r1 r2 r3 = callOf id (valueIn (ruleOf (functionNumber id) .fields) (kept (functionNumber id ∷ r1 ∷ r2 ∷ r3 ∷ [])))

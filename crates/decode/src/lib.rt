@@ -1,13 +1,12 @@
 // Decoding: four registers to a typed call.
 ghost use mathlib.Core.Path.{_≡_};
-ghost use Prim.Native.Nat.{_%_, _^_};
 ghost use Rattle.function.specs.Functions.{functionAnswer};
-ghost use Rattle.decode.specs.Decode.{knownOf, decodeOf};
+ghost use Rattle.decode.specs.Decode.{decodeOf};
 use function::Function;
 use function::FunctionResult;
-use function_ids::FunctionId;
-use function_ids::FunctionIdResult;
+use refusals::Error;
 use words::Cookie;
+use words::MemProtectRange;
 use words::Mpidr;
 use words::PowerState;
 use words::PsciFeature;
@@ -15,96 +14,94 @@ use words::ResetType;
 use words::SuspendMode;
 use words::SystemOff2Type;
 
-// The call that four registers make.
+// The call that four registers make. One match on the number, and each arm returns for itself: the answer is then written where the caller
+// wants it, and not copied from one arm's place to the next (docs/BENCHMARKS.md).
 pub fn decode(regs: [u64; 4]) -> FunctionResult
     ensures { λ r. ⌜ functionAnswer r ≡ decodeOf regs ⌝ }
 {
-    match FunctionId::try_from_u32(low(regs[0])) {
-        FunctionIdResult::Ok(function_id) => known(function_id, regs[1], regs[2], regs[3]),
-        FunctionIdResult::Err(error) => FunctionResult::Err(error),
-    }
-}
-
-// The call of a known function number, by its three argument registers.
-fn known(function_id: FunctionId, r1: u64, r2: u64, r3: u64) -> FunctionResult
-    ensures { λ r. ⌜ functionAnswer r ≡ knownOf «function_id» r1 r2 r3 ⌝ }
-{
+    let r1 = regs[1];
+    let r2 = regs[2];
+    let r3 = regs[3];
     // the low 32 bits of each
+    let number = (regs[0] % 0x1_0000_0000) as u32;
     let a = (r1 % 0x1_0000_0000) as u32;
     let b = (r2 % 0x1_0000_0000) as u32;
     let c = (r3 % 0x1_0000_0000) as u32;
-    match function_id {
-        FunctionId::PsciVersion => FunctionResult::Ok(Function::Version),
-        FunctionId::CpuSuspend32 => calls::cpu_suspend(
-            PowerState::try_from_u32(a),
-            calls::entry32(b, c),
-        ),
-        FunctionId::CpuSuspend64 => calls::cpu_suspend(
+    match number {
+        0x8400_0000 => return FunctionResult::Ok(Function::Version),
+        0x8400_0001 => return calls::cpu_suspend(PowerState::try_from_u32(a), calls::entry32(b, c)),
+        0xc400_0001 => return calls::cpu_suspend(
             PowerState::try_from_u32(a),
             calls::entry64(r2, r3),
         ),
-        FunctionId::CpuOff => FunctionResult::Ok(Function::CpuOff),
-        FunctionId::CpuOn32 => calls::cpu_on(Mpidr::try_from_u32(a), calls::entry32(b, c)),
-        FunctionId::CpuOn64 => calls::cpu_on(Mpidr::try_from_u64(r1), calls::entry64(r2, r3)),
-        FunctionId::AffinityInfo32 => calls::affinity_info(2, b, Mpidr::try_from_u32(a)),
-        FunctionId::AffinityInfo64 => calls::affinity_info(3, b, Mpidr::try_from_u64(r1)),
-        FunctionId::Migrate32 => calls::migrate(Mpidr::try_from_u32(a)),
-        FunctionId::Migrate64 => calls::migrate(Mpidr::try_from_u64(r1)),
-        FunctionId::MigrateInfoType => FunctionResult::Ok(Function::MigrateInfoType),
-        FunctionId::MigrateInfoUpCpu32 => calls::migrate_info_up_cpu(true),
-        FunctionId::MigrateInfoUpCpu64 => calls::migrate_info_up_cpu(false),
-        FunctionId::SystemOff => FunctionResult::Ok(Function::SystemOff),
-        FunctionId::SystemReset => FunctionResult::Ok(Function::SystemReset),
-        FunctionId::PsciFeatures => calls::features(PsciFeature::try_from_u32(a)),
-        FunctionId::CpuFreeze => FunctionResult::Ok(Function::CpuFreeze),
-        FunctionId::CpuDefaultSuspend32 => calls::cpu_default_suspend(calls::entry32(a, b)),
-        FunctionId::CpuDefaultSuspend64 => calls::cpu_default_suspend(calls::entry64(r1, r2)),
-        FunctionId::NodeHwState32 => calls::node_hw_state(Mpidr::try_from_u32(a), b),
-        FunctionId::NodeHwState64 => calls::node_hw_state(Mpidr::try_from_u64(r1), b),
-        FunctionId::SystemSuspend32 => calls::system_suspend(calls::entry32(a, b)),
-        FunctionId::SystemSuspend64 => calls::system_suspend(calls::entry64(r1, r2)),
-        FunctionId::PsciSetSuspendMode => calls::set_suspend_mode(SuspendMode::try_from_u32(a)),
-        FunctionId::PsciStatResidency32 => calls::stat_residency(
+        0x8400_0002 => return FunctionResult::Ok(Function::CpuOff),
+        0x8400_0003 => return calls::cpu_on(Mpidr::try_from_u32(a), calls::entry32(b, c)),
+        0xc400_0003 => return calls::cpu_on(Mpidr::try_from_u64(r1), calls::entry64(r2, r3)),
+        0x8400_0004 => return calls::affinity_info(2, b, Mpidr::try_from_u32(a)),
+        0xc400_0004 => return calls::affinity_info(3, b, Mpidr::try_from_u64(r1)),
+        0x8400_0005 => return calls::migrate(Mpidr::try_from_u32(a)),
+        0xc400_0005 => return calls::migrate(Mpidr::try_from_u64(r1)),
+        0x8400_0006 => return FunctionResult::Ok(Function::MigrateInfoType),
+        0x8400_0007 => return FunctionResult::Ok(Function::MigrateInfoUpCpu { is_32bit: true }),
+        0xc400_0007 => return FunctionResult::Ok(Function::MigrateInfoUpCpu { is_32bit: false }),
+        0x8400_0008 => return FunctionResult::Ok(Function::SystemOff),
+        0x8400_0009 => return FunctionResult::Ok(Function::SystemReset),
+        0x8400_000a => return calls::features(PsciFeature::try_from_u32(a)),
+        0x8400_000b => return FunctionResult::Ok(Function::CpuFreeze),
+        0x8400_000c => return FunctionResult::Ok(Function::CpuDefaultSuspend {
+            entry: calls::entry32(a, b),
+        }),
+        0xc400_000c => return FunctionResult::Ok(Function::CpuDefaultSuspend {
+            entry: calls::entry64(r1, r2),
+        }),
+        0x8400_000d => return calls::node_hw_state(Mpidr::try_from_u32(a), b),
+        0xc400_000d => return calls::node_hw_state(Mpidr::try_from_u64(r1), b),
+        0x8400_000e => return FunctionResult::Ok(Function::SystemSuspend {
+            entry: calls::entry32(a, b),
+        }),
+        0xc400_000e => return FunctionResult::Ok(Function::SystemSuspend {
+            entry: calls::entry64(r1, r2),
+        }),
+        0x8400_000f => return calls::set_suspend_mode(SuspendMode::try_from_u32(a)),
+        0x8400_0010 => return calls::stat_residency(
             Mpidr::try_from_u32(a),
             PowerState::try_from_u32(b),
         ),
-        FunctionId::PsciStatResidency64 => calls::stat_residency(
+        0xc400_0010 => return calls::stat_residency(
             Mpidr::try_from_u64(r1),
             PowerState::try_from_u32(b),
         ),
-        FunctionId::PsciStatCount32 => calls::stat_count(
+        0x8400_0011 => return calls::stat_count(
             Mpidr::try_from_u32(a),
             PowerState::try_from_u32(b),
         ),
-        FunctionId::PsciStatCount64 => calls::stat_count(
+        0xc400_0011 => return calls::stat_count(
             Mpidr::try_from_u64(r1),
             PowerState::try_from_u32(b),
         ),
-        FunctionId::SystemReset232 => calls::system_reset2(
-            ResetType::try_from_u32(a),
-            Cookie::Cookie32(b),
-        ),
-        FunctionId::SystemReset264 => calls::system_reset2(
+        0x8400_0012 => return calls::system_reset2(ResetType::try_from_u32(a), Cookie::Cookie32(b)),
+        0xc400_0012 => return calls::system_reset2(
             ResetType::try_from_u32(a),
             Cookie::Cookie64(r2),
         ),
-        FunctionId::MemProtect => calls::mem_protect(r1),
-        FunctionId::MemProtectCheckRange32 => calls::range32(a, b),
-        FunctionId::MemProtectCheckRange64 => calls::range64(r1, r2),
-        FunctionId::SystemOff232 => calls::system_off2(
+        0x8400_0013 => return calls::mem_protect(r1),
+        0x8400_0014 => return FunctionResult::Ok(Function::MemProtectCheckRange {
+            range: MemProtectRange::Range32 { base: a, length: b },
+        }),
+        0xc400_0014 => return FunctionResult::Ok(Function::MemProtectCheckRange {
+            range: MemProtectRange::Range64 {
+                base: r1,
+                length: r2,
+            },
+        }),
+        0x8400_0015 => return calls::system_off2(
             SystemOff2Type::try_from_u32(a),
             Cookie::Cookie32(b),
         ),
-        FunctionId::SystemOff264 => calls::system_off2(
+        0xc400_0015 => return calls::system_off2(
             SystemOff2Type::try_from_u32(a),
             Cookie::Cookie64(r2),
         ),
+        _ => return FunctionResult::Err(Error::UnrecognisedFunctionId(number)),
     }
-}
-
-// The low 32 bits of a register.
-fn low(register: u64) -> u32
-    ensures { λ r. ⌜ r ≡ register % 2 ^ 32 ⌝ }
-{
-    (register % 0x1_0000_0000) as u32
 }

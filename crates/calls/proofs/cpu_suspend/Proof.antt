@@ -10,5 +10,8 @@ cpu-suspend-spec =
     (tie.spec
     (λ c. search needs)
     (λ c. search needs)
-    (λ c. simp (c .before .state .given .1))
-    (λ c. simp (c .before .state2 .given .1)))
+    (λ c. search needs)
+    (λ c. search needs)
+    (λ c. simp (c .before .state2 .given .1, c .before .before .before .before .state .given .1))
+    (λ c. simp (c .before .state3 .given .1, c .before .before .before .before .state .given .1))
+    (λ c. simp (c .before .state4 .given .1)))

@@ -10,5 +10,8 @@ system-reset2-spec =
     (tie.spec
     (λ c. search needs)
     (λ c. search needs)
-    (λ c. simp (c .before .reset-type .given .1))
-    (λ c. simp (c .before .reset-type2 .given .1)))
+    (λ c. search needs)
+    (λ c. search needs)
+    (λ c. simp (c .before .reset-type2 .given .1, c .before .before .before .before .reset-type .given .1))
+    (λ c. simp (c .before .reset-type3 .given .1, c .before .before .before .before .reset-type .given .1))
+    (λ c. simp (c .before .reset-type4 .given .1)))

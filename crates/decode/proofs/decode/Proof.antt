@@ -1,39 +1,111 @@
--- `decode::decode` meets its contract: the number is read first, and then the registers of a known number.
+-- `decode::decode` meets its contract: each arm has the number of the function whose row it computes, and the last arm none of them.
 -- Assumes nothing.
-use mathlib.Core.Path.{sym, ap, _∙_}
+use mathlib.Core.Path.{refl}
 use borrow.Author.Needs.{needs}
-use Rattle.function_ids.specs.FunctionIds.{readFunctionId, functionIdAnswer}
-use Rattle.decode.proofs.Laws.{known-is, unknown-is}
+use Rattle.function_ids.specs.declared.FunctionId.the-variants as id
+use Rattle.decode.proofs.Laws.{unknown-is}
+use Rattle.decode.proofs.Rows.{decoded}
 use Rattle.decode.proofs.decode.Statement.{statement}
 use Rattle.decode.proofs.decode.Tie as tie
-
-returns : tie.Need-returns
-returns c =
-    c .known .ensures
-    ∙ known-is _ _
-    (ap readFunctionId (sym (c .before .before .before .before .before .low .ensures))
-    ∙ sym (c .before .before .before .before .try-from-u32 .ensures)
-    ∙ ap functionIdAnswer (c .before .before .function-id .given .1))
-
-returns-2 : tie.Need-returns-2
-returns-2 c =
-    unknown-is _ _ _
-    (ap readFunctionId (sym (c .before .before .before .before .low .ensures))
-    ∙ sym (c .before .before .before .try-from-u32 .ensures)
-    ∙ ap functionIdAnswer (c .before .error .given .1))
 
 pub decode-spec : {M : Type 1} → statement M
 decode-spec =
     tie.close
     (tie.spec
     (λ c. search needs)
+    (λ c. search needs)
+    (λ c. search needs)
+    (λ c. search needs)
+    (λ c. search needs)
+    (λ c. search needs)
+    (λ c. search needs)
+    (λ c. search needs)
+    (λ c. decoded id.PsciVersion _ (c .match .keys1) _ refl)
     (λ c κs. search needs)
     (λ c κs. search needs)
-    (λ c. search needs)
-    (λ c. search needs)
-    (λ c. search needs)
-    (λ c. search needs)
     (λ c κs. search needs)
-    (λ c. search needs)
-    returns
-    returns-2)
+    (λ c. decoded id.CpuSuspend32 _ (c .before .before .before .match .keys2) _ (simp (c .cpu-suspend .ensures, c .before .entry32 .ensures, c .before .before .try-from-u32 .ensures)))
+    (λ c κs. search needs)
+    (λ c κs. search needs)
+    (λ c κs. search needs)
+    (λ c. decoded id.CpuSuspend64 _ (c .before .before .before .match .keys3) _ (simp (c .cpu-suspend2 .ensures, c .before .entry64 .ensures, c .before .before .try-from-u322 .ensures)))
+    (λ c. decoded id.CpuOff _ (c .match .keys4) _ refl)
+    (λ c κs. search needs)
+    (λ c κs. search needs)
+    (λ c κs. search needs)
+    (λ c. decoded id.CpuOn32 _ (c .before .before .before .match .keys5) _ (simp (c .cpu-on .ensures, c .before .entry322 .ensures, c .before .before .try-from-u323 .ensures)))
+    (λ c κs. search needs)
+    (λ c κs. search needs)
+    (λ c κs. search needs)
+    (λ c. decoded id.CpuOn64 _ (c .before .before .before .match .keys6) _ (simp (c .cpu-on2 .ensures, c .before .entry642 .ensures, c .before .before .try-from-u64 .ensures)))
+    (λ c κs. search needs)
+    (λ c κs. search needs)
+    (λ c. decoded id.AffinityInfo32 _ (c .before .before .match .keys7) _ (simp (c .affinity-info .ensures, c .before .try-from-u324 .ensures)))
+    (λ c κs. search needs)
+    (λ c κs. search needs)
+    (λ c. decoded id.AffinityInfo64 _ (c .before .before .match .keys8) _ (simp (c .affinity-info2 .ensures, c .before .try-from-u642 .ensures)))
+    (λ c κs. search needs)
+    (λ c κs. search needs)
+    (λ c. decoded id.Migrate32 _ (c .before .before .match .keys9) _ (simp (c .migrate .ensures, c .before .try-from-u325 .ensures)))
+    (λ c κs. search needs)
+    (λ c κs. search needs)
+    (λ c. decoded id.Migrate64 _ (c .before .before .match .keys10) _ (simp (c .migrate2 .ensures, c .before .try-from-u643 .ensures)))
+    (λ c. decoded id.MigrateInfoType _ (c .match .keys11) _ refl)
+    (λ c. decoded id.MigrateInfoUpCpu32 _ (c .match .keys12) _ refl)
+    (λ c. decoded id.MigrateInfoUpCpu64 _ (c .match .keys13) _ refl)
+    (λ c. decoded id.SystemOff _ (c .match .keys14) _ refl)
+    (λ c. decoded id.SystemReset _ (c .match .keys15) _ refl)
+    (λ c κs. search needs)
+    (λ c κs. search needs)
+    (λ c. decoded id.PsciFeatures _ (c .before .before .match .keys16) _ (simp (c .features .ensures, c .before .try-from-u326 .ensures)))
+    (λ c. decoded id.CpuFreeze _ (c .match .keys17) _ refl)
+    (λ c κs. search needs)
+    (λ c. decoded id.CpuDefaultSuspend32 _ (c .before .match .keys18) _ (simp (c .entry323 .ensures)))
+    (λ c κs. search needs)
+    (λ c. decoded id.CpuDefaultSuspend64 _ (c .before .match .keys19) _ (simp (c .entry643 .ensures)))
+    (λ c κs. search needs)
+    (λ c κs. search needs)
+    (λ c. decoded id.NodeHwState32 _ (c .before .before .match .keys20) _ (simp (c .node-hw-state .ensures, c .before .try-from-u327 .ensures)))
+    (λ c κs. search needs)
+    (λ c κs. search needs)
+    (λ c. decoded id.NodeHwState64 _ (c .before .before .match .keys21) _ (simp (c .node-hw-state2 .ensures, c .before .try-from-u644 .ensures)))
+    (λ c κs. search needs)
+    (λ c. decoded id.SystemSuspend32 _ (c .before .match .keys22) _ (simp (c .entry324 .ensures)))
+    (λ c κs. search needs)
+    (λ c. decoded id.SystemSuspend64 _ (c .before .match .keys23) _ (simp (c .entry644 .ensures)))
+    (λ c κs. search needs)
+    (λ c κs. search needs)
+    (λ c. decoded id.PsciSetSuspendMode _ (c .before .before .match .keys24) _ (simp (c .set-suspend-mode .ensures, c .before .try-from-u328 .ensures)))
+    (λ c κs. search needs)
+    (λ c κs. search needs)
+    (λ c κs. search needs)
+    (λ c. decoded id.PsciStatResidency32 _ (c .before .before .before .match .keys25) _ (simp (c .stat-residency .ensures, c .before .try-from-u3210 .ensures, c .before .before .try-from-u329 .ensures)))
+    (λ c κs. search needs)
+    (λ c κs. search needs)
+    (λ c κs. search needs)
+    (λ c. decoded id.PsciStatResidency64 _ (c .before .before .before .match .keys26) _ (simp (c .stat-residency2 .ensures, c .before .try-from-u3211 .ensures, c .before .before .try-from-u645 .ensures)))
+    (λ c κs. search needs)
+    (λ c κs. search needs)
+    (λ c κs. search needs)
+    (λ c. decoded id.PsciStatCount32 _ (c .before .before .before .match .keys27) _ (simp (c .stat-count .ensures, c .before .try-from-u3213 .ensures, c .before .before .try-from-u3212 .ensures)))
+    (λ c κs. search needs)
+    (λ c κs. search needs)
+    (λ c κs. search needs)
+    (λ c. decoded id.PsciStatCount64 _ (c .before .before .before .match .keys28) _ (simp (c .stat-count2 .ensures, c .before .try-from-u3214 .ensures, c .before .before .try-from-u646 .ensures)))
+    (λ c κs. search needs)
+    (λ c κs. search needs)
+    (λ c. decoded id.SystemReset232 _ (c .before .before .match .keys29) _ (simp (c .system-reset2 .ensures, c .before .try-from-u3215 .ensures)))
+    (λ c κs. search needs)
+    (λ c κs. search needs)
+    (λ c. decoded id.SystemReset264 _ (c .before .before .match .keys30) _ (simp (c .system-reset22 .ensures, c .before .try-from-u3216 .ensures)))
+    (λ c κs. search needs)
+    (λ c. decoded id.MemProtect _ (c .before .match .keys31) _ (simp (c .mem-protect .ensures)))
+    (λ c. decoded id.MemProtectCheckRange32 _ (c .match .keys32) _ refl)
+    (λ c. decoded id.MemProtectCheckRange64 _ (c .match .keys33) _ refl)
+    (λ c κs. search needs)
+    (λ c κs. search needs)
+    (λ c. decoded id.SystemOff232 _ (c .before .before .match .keys34) _ (simp (c .system-off2 .ensures, c .before .try-from-u3217 .ensures)))
+    (λ c κs. search needs)
+    (λ c κs. search needs)
+    (λ c. decoded id.SystemOff264 _ (c .before .before .match .keys35) _ (simp (c .system-off22 .ensures, c .before .try-from-u3218 .ensures)))
+    (λ c. unknown-is _ (c .match .rest)))
