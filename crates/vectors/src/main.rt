@@ -4,6 +4,7 @@
 use encode::EncodeResult;
 use wire_call_asked::Asked;
 use wire_call_asked::call_asked;
+use wire_records::nine_in;
 
 // Operations beside the wire's: a heading, which has a label alone; and a call written to a lent run, whose length is word 15.
 const HEADING: u64 = 1000;
@@ -51,25 +52,11 @@ fn show_answer(w: [u64; 16]) {
     }
 }
 
-fn show_run(run: [u64; 5]) {
-    space();
-    io::print_hex(1, run[0], 1);
-    space();
-    io::print_hex(1, run[1], 1);
-    space();
-    io::print_hex(1, run[2], 1);
-    space();
-    io::print_hex(1, run[3], 1);
-    space();
-    io::print_hex(1, run[4], 1);
-}
-
 // A call written to the first numbers of five.
 fn show_lent(w: [u64; 16]) {
-    let mut run = [PATTERN; 5];
+    let mut run = [PATTERN; 16];
     let length = (w[15] % 6) as usize;
-    let c = [w[1], w[2], w[3], w[4], w[5], w[6], w[7], w[8], w[9]];
-    match call_asked(c) {
+    match call_asked(nine_in(w)) {
         Asked::Call(function) => match encode::encode(function, &mut run[..length]) {
             EncodeResult::Ok => {
                 io::write_all(1, b": accepted");
@@ -79,45 +66,17 @@ fn show_lent(w: [u64; 16]) {
         Asked::UnknownTag(tag) => show_refusal(1002, tag),
         Asked::WrongPart => show_refusal(1003, 0),
     }
-    show_run(run);
+    show_words(run, 0, 5);
 }
 
-// The sixteen words of a case.
-fn record(case: [u8; 256]) -> [u64; 16] {
-    let a = call_log::registers_of(&case[128..160]);
-    let b = call_log::registers_of(&case[160..192]);
-    let c = call_log::registers_of(&case[192..224]);
-    let d = call_log::registers_of(&case[224..256]);
-    [
-        a[0],
-        a[1],
-        a[2],
-        a[3],
-        b[0],
-        b[1],
-        b[2],
-        b[3],
-        c[0],
-        c[1],
-        c[2],
-        c[3],
-        d[0],
-        d[1],
-        d[2],
-        d[3],
-    ]
-}
-
-fn show_label(case: [u8; 256]) {
-    let length = case[127] as usize;
+fn show_label(label: [u8; 128]) {
+    let length = label[127] as usize;
     if length <= 127 {
-        io::write_all(1, &case[..length]);
+        io::write_all(1, &label[..length]);
     }
 }
 
-fn show_case(case: [u8; 256]) {
-    show_label(case);
-    let w = record(case);
+fn show_case(w: [u64; 16]) {
     let op = w[0];
     if op == LENT {
         show_lent(w);
@@ -129,12 +88,15 @@ fn show_case(case: [u8; 256]) {
 
 // Whether there was another case.
 fn step() -> bool {
-    let mut case = [0u8; 256];
-    let got = io::read_full(0, &mut case);
-    if got != 256 {
+    let mut label = [0u8; 128];
+    let mut words = [0u8; 128];
+    let front = io::read_full(0, &mut label);
+    let back = io::read_full(0, &mut words);
+    if front != 128 || back != 128 {
         return false;
     }
-    show_case(case);
+    show_label(label);
+    show_case(wire_bytes::words_of(&words));
     true
 }
 
