@@ -1,0 +1,140 @@
+// Prints what the log, its reader and a line answer, a line for each answer.
+use call_log::Counted;
+use call_log::LogError;
+use call_log::OpenResult;
+use call_log::ReadResult;
+use record_line::LineError;
+use record_line::LineResult;
+
+fn number(n: u64) {
+    io::print_decimal(1, n);
+}
+
+fn space() {
+    io::write_all(1, b" ");
+}
+
+fn colon() {
+    io::write_all(1, b": ");
+}
+
+fn new_line() {
+    io::write_all(1, b"\n");
+}
+
+fn refused(refusal: u64, value: u64) {
+    io::write_all(1, b"refused ");
+    number(refusal);
+    space();
+    number(value);
+}
+
+// What a refusal carries.
+fn carried(error: LogError) -> u64 {
+    match error {
+        LogError::Empty => 0,
+        LogError::TooLong(size) => size as u64,
+        LogError::UnknownVersion(byte) => byte as u64,
+        LogError::BadPosition(at) => at as u64,
+        LogError::CutRecord(at) => at as u64,
+        LogError::BadLength(size) => size,
+    }
+}
+
+fn show_refusal(error: LogError) {
+    refused(error.number() as u64, carried(error));
+}
+
+fn show_read_answer(answer: ReadResult) {
+    match answer {
+        ReadResult::Record(next) => {
+            io::write_all(1, b"record, next ");
+            number(next as u64);
+        }
+        ReadResult::End => {
+            io::write_all(1, b"end");
+        }
+        ReadResult::Err(error) => show_refusal(error),
+    }
+    new_line();
+}
+
+fn show_size(log: &[u8]) {
+    number(log.len() as u64);
+    io::write_all(1, b" bytes, ");
+}
+
+pub fn show_read(log: &[u8], at: usize) {
+    show_size(log);
+    io::write_all(1, b"read at ");
+    number(at as u64);
+    colon();
+    show_read_answer(call_log::read_at(log, at));
+}
+
+pub fn show_part(log: &[u8], at: usize) {
+    show_size(log);
+    io::write_all(1, b"part at ");
+    number(at as u64);
+    io::write_all(1, b": length ");
+    number(call_log::record_at(log, at).len() as u64);
+    new_line();
+}
+
+pub fn show_open(log: &[u8]) {
+    show_size(log);
+    io::write_all(1, b"open: ");
+    match call_log::open(log) {
+        OpenResult::Ok(start) => {
+            io::write_all(1, b"position ");
+            number(start as u64);
+        }
+        OpenResult::Err(error) => show_refusal(error),
+    }
+    new_line();
+}
+
+pub fn show_count(log: &[u8]) {
+    let Counted { records, refusal } = call_log::count(log);
+    show_size(log);
+    io::write_all(1, b"count: ");
+    number(records as u64);
+    space();
+    number(refusal as u64);
+    new_line();
+}
+
+// What a reader made at a position answers the second time.
+pub fn show_second(log: &[u8], at: usize) {
+    show_size(log);
+    io::write_all(1, b"second answer of a reader at ");
+    number(at as u64);
+    colon();
+    show_read_answer(log_reader::second(log, at));
+}
+
+fn show_line_answer(answer: LineResult) {
+    match answer {
+        LineResult::Ok(size) => {
+            io::write_all(1, b"length ");
+            number(size as u64);
+        }
+        LineResult::Err(error) => match error {
+            LineError::BadNumber(n) => refused(24, n as u64),
+            LineError::ShortRun(n) => refused(25, n as u64),
+        },
+    }
+    new_line();
+}
+
+// A line's answer, and below it all lent bytes.
+pub fn show_line(record: usize, regs: [u64; 4], out: &mut [u8]) {
+    io::write_all(1, b"line ");
+    number(record as u64);
+    io::write_all(1, b" into ");
+    number(out.len() as u64);
+    io::write_all(1, b" bytes: ");
+    show_line_answer(record_line::line(record, regs, out));
+    io::write_all(1, out);
+    new_line();
+}
