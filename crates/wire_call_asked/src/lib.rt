@@ -44,69 +44,71 @@ fn call_at(c: [u64; 9]) -> Asked
     let p6 = c[6];
     let p7 = c[7];
     let p8 = c[8];
-    match tag {
-        0 => Asked::Call(Function::Version),
-        1 => Asked::Call(Function::CpuSuspend {
+    let mpidr = mpidr_in(c);
+    let function = match tag {
+        0 => Function::Version,
+        1 => Function::CpuSuspend {
             state: power_state_in(p1, p2),
             entry: entry_in(p3, p4, p5),
-        }),
-        2 => Asked::Call(Function::CpuOff),
-        3 => Asked::Call(Function::CpuOn {
-            target_cpu: mpidr_in(c),
+        },
+        2 => Function::CpuOff,
+        3 => Function::CpuOn {
+            target_cpu: mpidr,
             entry: entry_in(p6, p7, p8),
-        }),
-        4 => Asked::Call(Function::AffinityInfo {
-            mpidr: mpidr_in(c),
+        },
+        4 => Function::AffinityInfo {
+            mpidr,
             lowest_affinity_level: low32(p6),
-        }),
-        5 => Asked::Call(Function::Migrate {
-            target_affinity: mpidr_in(c),
-        }),
-        6 => Asked::Call(Function::MigrateInfoType),
-        7 => Asked::Call(Function::MigrateInfoUpCpu {
+        },
+        5 => Function::Migrate {
+            target_affinity: mpidr,
+        },
+        6 => Function::MigrateInfoType,
+        7 => Function::MigrateInfoUpCpu {
             is_32bit: is_set(p1),
-        }),
-        8 => Asked::Call(Function::SystemOff),
-        9 => Asked::Call(Function::SystemOff2 {
+        },
+        8 => Function::SystemOff,
+        9 => Function::SystemOff2 {
             off_type: SystemOff2Type::HibernateOff,
             cookie: cookie_in(p2, p3),
-        }),
-        10 => Asked::Call(Function::SystemReset),
-        11 => Asked::Call(Function::SystemReset2 {
+        },
+        10 => Function::SystemReset,
+        11 => Function::SystemReset2 {
             reset_type: reset_type_in(p1, p2),
             cookie: cookie_in(p3, p4),
-        }),
-        12 => Asked::Call(Function::MemProtect {
+        },
+        12 => Function::MemProtect {
             enabled: is_set(p1),
-        }),
-        13 => Asked::Call(Function::MemProtectCheckRange {
+        },
+        13 => Function::MemProtectCheckRange {
             range: range_in(p1, p2, p3),
-        }),
-        14 => Asked::Call(Function::Features {
+        },
+        14 => Function::Features {
             psci_func_id: feature_in(p1, p2),
-        }),
-        15 => Asked::Call(Function::CpuFreeze),
-        16 => Asked::Call(Function::CpuDefaultSuspend {
+        },
+        15 => Function::CpuFreeze,
+        16 => Function::CpuDefaultSuspend {
             entry: entry_in(p1, p2, p3),
-        }),
-        17 => Asked::Call(Function::NodeHwState {
-            target_cpu: mpidr_in(c),
+        },
+        17 => Function::NodeHwState {
+            target_cpu: mpidr,
             power_level: low32(p6),
-        }),
-        18 => Asked::Call(Function::SystemSuspend {
+        },
+        18 => Function::SystemSuspend {
             entry: entry_in(p1, p2, p3),
-        }),
-        19 => Asked::Call(Function::SetSuspendMode { mode: mode_in(p1) }),
-        20 => Asked::Call(Function::StatResidency {
-            target_cpu: mpidr_in(c),
+        },
+        19 => Function::SetSuspendMode { mode: mode_in(p1) },
+        20 => Function::StatResidency {
+            target_cpu: mpidr,
             power_state: power_state_in(p6, p7),
-        }),
-        21 => Asked::Call(Function::StatCount {
-            target_cpu: mpidr_in(c),
+        },
+        21 => Function::StatCount {
+            target_cpu: mpidr,
             power_state: power_state_in(p6, p7),
-        }),
-        _ => Asked::UnknownTag(tag),
-    }
+        },
+        _ => return Asked::UnknownTag(tag),
+    };
+    Asked::Call(function)
 }
 
 // The call whose nine words these are.
