@@ -2,6 +2,7 @@
 //! nine words, four registers, a refusal and what it carries. `oracle` answers it from the Rust; the crate `wire` answers the same.
 pub mod flat;
 pub mod inputs;
+pub mod line;
 #[cfg(feature = "rattle")]
 pub mod rattle;
 pub mod sheet;

@@ -1,6 +1,7 @@
-//! The exported functions of the crates `wire_record` and `wire`. Nothing checks these declarations against the Rattle source but the
-//! comparison itself.
+//! The exported functions of the crates `wire_record`, `wire` and `wire_line`. Nothing checks these declarations against the Rattle source
+//! but the comparison itself.
 use crate::Record;
+use crate::line::Written;
 
 /// A refusal's number and what it carries, or twice 0.
 #[repr(C)]
@@ -17,4 +18,5 @@ unsafe extern "C" {
     pub safe fn psci_decode(regs: &[u64; 4], out: &mut [u64; 9]) -> Refusal;
     pub safe fn psci_encode(call: &[u64; 9], out: &mut [u64; 4]) -> Refusal;
     pub safe fn psci_recode(regs: &[u64; 4], out: &mut [u64; 4]) -> Refusal;
+    pub safe fn psci_line(number: usize, regs: &[u64; 4], out: &mut [u8; 80]) -> Written;
 }

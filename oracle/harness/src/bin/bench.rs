@@ -2,6 +2,7 @@
 //! C pointer that the compiler can't see through; nothing is cleared on either side. `bench count LIST SIDE` makes the calls of one list
 //! once, for callgrind: SIDE is rust, rattle or none, which makes no call. `bench lists` names the lists, `bench calls LIST` counts one.
 use arm_psci::Function;
+use harness::line::{self, Written};
 use harness::rattle::{self, Refusal};
 use harness::{flat, inputs, refusal};
 use std::hint::black_box;
@@ -49,35 +50,92 @@ extern "C" fn rust_recode(regs: &[u64; 4], out: &mut [u64; 4]) -> Refusal {
     }
 }
 
+#[inline(never)]
+extern "C" fn rust_line(number: usize, regs: &[u64; 4], out: &mut [u8; 80]) -> Written {
+    line::line(number, regs, out)
+}
+
 extern "C" fn nothing<const I: usize, const O: usize>(_: &[u64; I], _: &mut [u64; O]) -> Refusal {
     ACCEPTED
 }
 
-type Call<const I: usize, const O: usize> = extern "C" fn(&[u64; I], &mut [u64; O]) -> Refusal;
+extern "C" fn no_line(_: usize, _: &[u64; 4], _: &mut [u8; 80]) -> Written {
+    Written { size: 0, number: 0, carried: 0 }
+}
+
+/// A C pointer: what it is asked, and what is lent to it.
+trait Call: Copy {
+    type Asked;
+    type Lent;
+    const LENT: Self::Lent;
+    /// Makes the call and gives a word of its answer and of the lent words.
+    fn make(self, asked: &Self::Asked, lent: &mut Self::Lent) -> u64;
+}
+
+type Words<const I: usize, const O: usize> = extern "C" fn(&[u64; I], &mut [u64; O]) -> Refusal;
+
+impl<const I: usize, const O: usize> Call for Words<I, O> {
+    type Asked = [u64; I];
+    type Lent = [u64; O];
+    const LENT: [u64; O] = [0; O];
+    fn make(self, asked: &[u64; I], lent: &mut [u64; O]) -> u64 {
+        let r = self(asked, lent);
+        r.number ^ r.carried ^ black_box(&*lent)[1]
+    }
+}
+
+type Line = extern "C" fn(usize, &[u64; 4], &mut [u8; 80]) -> Written;
+
+impl Call for Line {
+    type Asked = (usize, [u64; 4]);
+    type Lent = [u8; 80];
+    const LENT: [u8; 80] = [0; 80];
+    fn make(self, (number, regs): &(usize, [u64; 4]), lent: &mut [u8; 80]) -> u64 {
+        let r = self(*number, regs, lent);
+        let digits = black_box(&*lent)[16..24].try_into().unwrap();
+        r.size ^ r.number ^ r.carried ^ u64::from_le_bytes(digits)
+    }
+}
 
 /// Nanoseconds a call, and a sum of the answers.
 #[inline(never)]
-fn time<const I: usize, const O: usize>(list: &[[u64; I]], f: Call<I, O>) -> (f64, u64) {
+fn time<C: Call>(list: &[C::Asked], f: C) -> (f64, u64) {
     let f = black_box(f);
-    let mut out = [0; O];
+    let mut lent = C::LENT;
     let mut sum = 0u64;
     let start = Instant::now();
     for asked in list {
-        let r = f(asked, &mut out);
-        sum = sum.rotate_left(1) ^ r.number ^ r.carried ^ black_box(&out)[1];
+        sum = sum.rotate_left(1) ^ f.make(asked, &mut lent);
     }
     (start.elapsed().as_secs_f64() * 1e9 / list.len() as f64, sum)
 }
 
-/// A list, and the two sides that answer it.
-struct Pair<const I: usize, const O: usize> {
+/// A list, the two sides that answer it, and a call that does nothing.
+struct Pair<C: Call> {
     name: &'static str,
-    list: Vec<[u64; I]>,
-    rust: Call<I, O>,
-    rattle: Call<I, O>,
+    list: Vec<C::Asked>,
+    rust: C,
+    rattle: C,
+    none: C,
 }
 
-impl<const I: usize, const O: usize> Pair<I, O> {
+/// A pair of any kind of call.
+trait Timed {
+    fn name(&self) -> &'static str;
+    fn calls(&self) -> usize;
+    fn run(&self, rounds: usize);
+    fn count(&self, side: &str);
+}
+
+impl<C: Call> Timed for Pair<C> {
+    fn name(&self) -> &'static str {
+        self.name
+    }
+
+    fn calls(&self) -> usize {
+        self.list.len()
+    }
+
     fn run(&self, rounds: usize) {
         let (mut a, mut b) = (f64::MAX, f64::MAX);
         for _ in 0..rounds {
@@ -93,10 +151,26 @@ impl<const I: usize, const O: usize> Pair<I, O> {
         let f = match side {
             "rust" => self.rust,
             "rattle" => self.rattle,
-            _ => nothing,
+            _ => self.none,
         };
         black_box(time(&self.list, f));
     }
+}
+
+fn words<const I: usize, const O: usize>(name: &'static str, list: &[[u64; I]], rust: Words<I, O>, rattle: Words<I, O>) -> Box<dyn Timed> {
+    Box::new(Pair { name, list: list.to_vec(), rust, rattle, none: nothing as Words<I, O> })
+}
+
+/// Each set with a record number, in turn; both sides must write what the judge writes.
+fn lines(name: &'static str, sets: &[[u64; 4]]) -> Box<dyn Timed> {
+    let list: Vec<_> = sets.iter().enumerate().map(|(i, regs)| (i % (line::MAX_NUMBER + 1), *regs)).collect();
+    for (number, regs) in &list {
+        for side in [rust_line as Line, rattle::psci_line] {
+            let mut out = [0; 80];
+            assert_eq!((side(*number, regs, &mut out), out), line::judged(*number, regs, [0; 80]), "{name}: not the judge's line");
+        }
+    }
+    Box::new(Pair { name, list, rust: rust_line as Line, rattle: rattle::psci_line, none: no_line })
 }
 
 fn main() {
@@ -106,41 +180,32 @@ fn main() {
     inputs::decode_random(1, 1 << 14, &mut |q| mixed.push(q.regs));
     let legal: Vec<[u64; 4]> = mixed.iter().copied().filter(|r| Function::try_from(r).is_ok()).collect();
     let calls: Vec<[u64; 9]> = legal.iter().map(|r| flat::call(Function::try_from(r).unwrap())).collect();
+    let recode = |name, list: &[[u64; 4]]| words(name, list, rust_recode, rattle::psci_recode);
+    let decode = |name, list: &[[u64; 4]]| words(name, list, rust_decode, rattle::psci_decode);
     let only = |regs: [u64; 4]| vec![regs; 1 << 14];
-    let recode = |name, list| Pair { name, list, rust: rust_recode, rattle: rattle::psci_recode };
-    let decode = |name, list| Pair { name, list, rust: rust_decode, rattle: rattle::psci_decode };
-    let recodes = [
-        recode("decode_then_encode:_mixed", mixed.clone()),
-        recode("decode_then_encode:_legal", legal.clone()),
-        recode("decode_then_encode:_64-bit_CPU_on", only([0xc400_0003, 0x1_0002_0304, 0x8_0000, 9])),
-        recode("decode_then_encode:_32-bit_CPU_suspend", only([0x8400_0001, 0x4000_0007, 0x8_0000, 9])),
-        recode("decode_then_encode:_CPU_off", only([0x8400_0002, 0, 0, 0])),
+    let pairs = [
+        recode("decode_then_encode:_mixed", &mixed),
+        recode("decode_then_encode:_legal", &legal),
+        recode("decode_then_encode:_64-bit_CPU_on", &only([0xc400_0003, 0x1_0002_0304, 0x8_0000, 9])),
+        recode("decode_then_encode:_32-bit_CPU_suspend", &only([0x8400_0001, 0x4000_0007, 0x8_0000, 9])),
+        recode("decode_then_encode:_CPU_off", &only([0x8400_0002, 0, 0, 0])),
+        decode("decode:_mixed", &mixed),
+        decode("decode:_legal", &legal),
+        words("encode:_legal", &calls, rust_encode, rattle::psci_encode),
+        lines("line:_mixed", &mixed),
+        lines("line:_legal", &legal),
     ];
-    let decodes = [decode("decode:_mixed", mixed.clone()), decode("decode:_legal", legal.clone())];
-    let encodes = [Pair { name: "encode:_legal", list: calls, rust: rust_encode, rattle: rattle::psci_encode }];
+    let named = |name: &str| pairs.iter().find(|p| p.name() == name).expect("the name of a list");
     match word(0) {
-        "lists" => {
-            let names = recodes.iter().map(|p| p.name).chain(decodes.iter().map(|p| p.name)).chain(encodes.iter().map(|p| p.name));
-            names.for_each(|name| println!("{name}"));
-        }
-        "calls" => {
-            let all = recodes.iter().map(|p| (p.name, p.list.len())).chain(decodes.iter().map(|p| (p.name, p.list.len())));
-            let all = all.chain(encodes.iter().map(|p| (p.name, p.list.len())));
-            all.filter(|(name, _)| *name == word(1)).for_each(|(_, n)| println!("{n}"));
-        }
-        "count" => {
-            recodes.iter().filter(|p| p.name == word(1)).for_each(|p| p.count(word(2)));
-            decodes.iter().filter(|p| p.name == word(1)).for_each(|p| p.count(word(2)));
-            encodes.iter().filter(|p| p.name == word(1)).for_each(|p| p.count(word(2)));
-        }
+        "lists" => pairs.iter().for_each(|p| println!("{}", p.name())),
+        "calls" => println!("{}", named(word(1)).calls()),
+        "count" => named(word(1)).count(word(2)),
         rounds => {
             let rounds = rounds.parse().unwrap_or(300);
-            let empty = (0..rounds).map(|_| time(&mixed, nothing::<4, 4>).0).fold(f64::MAX, f64::min);
+            let empty = (0..rounds).map(|_| time(&mixed, nothing as Words<4, 4>).0).fold(f64::MAX, f64::min);
             println!("{} mixed sets, {} of them legal; an empty call takes {empty:.2} ns\n", mixed.len(), legal.len());
             println!("| operation and list | Rust, ns | Rattle, ns | ratio |\n|---|---:|---:|---:|");
-            recodes.iter().for_each(|p| p.run(rounds));
-            decodes.iter().for_each(|p| p.run(rounds));
-            encodes.iter().for_each(|p| p.run(rounds));
+            pairs.iter().for_each(|p| p.run(rounds));
         }
     }
 }

@@ -1,7 +1,7 @@
-//! `direct SEED COUNT`: the boundary questions and COUNT random ones to decode, encode, and one after the other, each called through C
-//! with lent words. The first difference is printed, with status 1.
+//! `direct SEED COUNT`: the boundary questions and COUNT random ones to decode, encode, one after the other, and a record's line, each called
+//! through C with lent words. The first difference is printed, with status 1.
 use harness::rattle::{self, Refusal};
-use harness::{Record, inputs, op, oracle, quiet_panics};
+use harness::{Record, inputs, line, op, oracle, quiet_panics};
 
 fn expect<T: PartialEq + std::fmt::Debug>(what: &str, q: &Record, want: T, got: T) {
     if want != got {
@@ -23,6 +23,9 @@ fn compare(q: &Record) -> bool {
             let (mut out, words) = ([!0; 4], if want.refusal == 0 { again.regs } else { [!0; 4] });
             let got = rattle::psci_recode(&q.regs, &mut out);
             expect("decode then encode", q, (refusal, words), (got, out));
+            let (mut text, number) = ([0xaa; 80], q.regs[1] as usize % (line::MAX_NUMBER + 10));
+            let got = rattle::psci_line(number, &q.regs, &mut text);
+            expect("line", q, line::judged(number, &q.regs, [0xaa; 80]), (got, text));
         }
         op::ENCODE => {
             let mut out = q.regs;
