@@ -1,83 +1,12 @@
-// The edges of document 01's log, reader and line, run. What they must give is written out in tools/expected-log-cases.
-use log_shown::show_count;
-use log_shown::show_line;
-use log_shown::show_open;
-use log_shown::show_part;
-use log_shown::show_read;
-use log_shown::show_second;
+// The edges of document 01's log and reader, run. What they must give is written out in tools/expected-log-cases.
+mod shown;
 
-// Document 01's 69 bytes: CPU off, and a record that decoding refuses.
-const LOG: [u8; 69] = [
-    1,
-    0,
-    32,
-    0,
-    0,
-    0,
-    0,
-    0x84,
-    0,
-    0,
-    0x02,
-    0,
-    0,
-    0,
-    0,
-    0,
-    0,
-    0,
-    0x07,
-    0,
-    0,
-    0,
-    0,
-    0,
-    0,
-    0,
-    0,
-    0,
-    0,
-    0,
-    0,
-    0,
-    0,
-    0,
-    0,
-    0,
-    32,
-    0,
-    0,
-    0,
-    0,
-    0x84,
-    0,
-    0,
-    0x16,
-    0,
-    0,
-    0,
-    0,
-    0,
-    0,
-    0,
-    0,
-    0,
-    0,
-    0,
-    0,
-    0,
-    0,
-    0,
-    0,
-    0,
-    0,
-    0,
-    0,
-    0,
-    0,
-    0,
-    0,
-];
+use example_log::LOG;
+use shown::show_count;
+use shown::show_open;
+use shown::show_part;
+use shown::show_read;
+use shown::show_second;
 
 // What a case asks of the log.
 const OPEN: u8 = 0;
@@ -208,35 +137,8 @@ fn full() {
     show_full(&log[..64602]);
 }
 
-// The line of the record at a position, into 80 bytes that hold dots.
-fn show_record(at: usize, record: usize) {
-    let log = LOG;
-    let mut out = [b'.'; 80];
-    let regs = call_log::registers_of(call_log::record_at(&log, at));
-    show_line(record, regs, &mut out);
-}
-
-fn lines() {
-    show_record(1, 0);
-    show_record(35, 1);
-    show_record(1, 1899);
-    show_record(1, 1900);
-    show_record(1, 18446744073709551615);
-    let mut short = [b'.'; 79];
-    show_line(0, [0x84000002, 7, 0, 0], &mut short);
-    show_line(1900, [0x84000002, 7, 0, 0], &mut short);
-    let mut long = [b'.'; 81];
-    show_line(
-        9,
-        [0xc4000003, 0x100020304, 0xfedcba9876543210, 9],
-        &mut long,
-    );
-    show_line(10, [0x84000003, 0x01000000, 0, 0], &mut long);
-}
-
 fn main() {
     cases();
     lengths();
     full();
-    lines();
 }

@@ -1,10 +1,8 @@
-// Prints what the log, its reader and a line answer, a line for each answer.
+// Prints what the log and its reader answer, a line for each answer.
 use call_log::Counted;
 use call_log::LogError;
 use call_log::OpenResult;
 use call_log::ReadResult;
-use record_line::LineError;
-use record_line::LineResult;
 
 fn number(n: u64) {
     io::print_decimal(1, n);
@@ -64,7 +62,7 @@ fn show_size(log: &[u8]) {
     io::write_all(1, b" bytes, ");
 }
 
-pub fn show_read(log: &[u8], at: usize) {
+pub(crate) fn show_read(log: &[u8], at: usize) {
     show_size(log);
     io::write_all(1, b"read at ");
     number(at as u64);
@@ -72,7 +70,7 @@ pub fn show_read(log: &[u8], at: usize) {
     show_read_answer(call_log::read_at(log, at));
 }
 
-pub fn show_part(log: &[u8], at: usize) {
+pub(crate) fn show_part(log: &[u8], at: usize) {
     show_size(log);
     io::write_all(1, b"part at ");
     number(at as u64);
@@ -81,7 +79,7 @@ pub fn show_part(log: &[u8], at: usize) {
     new_line();
 }
 
-pub fn show_open(log: &[u8]) {
+pub(crate) fn show_open(log: &[u8]) {
     show_size(log);
     io::write_all(1, b"open: ");
     match call_log::open(log) {
@@ -94,7 +92,7 @@ pub fn show_open(log: &[u8]) {
     new_line();
 }
 
-pub fn show_count(log: &[u8]) {
+pub(crate) fn show_count(log: &[u8]) {
     let Counted { records, refusal } = call_log::count(log);
     show_size(log);
     io::write_all(1, b"count: ");
@@ -105,36 +103,10 @@ pub fn show_count(log: &[u8]) {
 }
 
 // What a reader made at a position answers the second time.
-pub fn show_second(log: &[u8], at: usize) {
+pub(crate) fn show_second(log: &[u8], at: usize) {
     show_size(log);
     io::write_all(1, b"second answer of a reader at ");
     number(at as u64);
     colon();
     show_read_answer(log_reader::second(log, at));
-}
-
-fn show_line_answer(answer: LineResult) {
-    match answer {
-        LineResult::Ok(size) => {
-            io::write_all(1, b"length ");
-            number(size as u64);
-        }
-        LineResult::Err(error) => match error {
-            LineError::BadNumber(n) => refused(24, n as u64),
-            LineError::ShortRun(n) => refused(25, n as u64),
-        },
-    }
-    new_line();
-}
-
-// A line's answer, and below it all lent bytes.
-pub fn show_line(record: usize, regs: [u64; 4], out: &mut [u8]) {
-    io::write_all(1, b"line ");
-    number(record as u64);
-    io::write_all(1, b" into ");
-    number(out.len() as u64);
-    io::write_all(1, b" bytes: ");
-    show_line_answer(record_line::line(record, regs, out));
-    io::write_all(1, out);
-    new_line();
 }
