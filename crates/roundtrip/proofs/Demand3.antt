@@ -17,7 +17,7 @@ use Rattle.roundtrip.proofs.Bits.{bits-mod, mod-bits}
 
 -- ---- what is kept of a register
 
-small : (t : Bool) → cond t 0 1 < 2
+pub small : (t : Bool) → cond t 0 1 < 2
 small true = omega arith
 small false = omega arith
 

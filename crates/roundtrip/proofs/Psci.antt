@@ -1,6 +1,5 @@
 -- Demand 3 of document 01's codec: what it accepts is written as the kept words. Assumes nothing.
 use mathlib.Core.Path.{_≡_, refl, sym, ap, _∙_, subst}
-use mathlib.Core.Bool.{Bool, true, false, cond}
 use mathlib.Core.List.{List, [], _∷_}
 use Prim.Native.Nat.{ℕ, _^_, _<_}
 use native.Mathlib.Omega.{arith}
@@ -18,12 +17,8 @@ use Rattle.decode.specs.Decode.{callOf, callIn, decodeOf}
 use Rattle.encode.specs.Encode.{wordsOf, encodeOf}
 use Rattle.roundtrip.specs.Codec.{Registers}
 use Rattle.roundtrip.specs.Psci.{psci, Demand3Of01}
-use Rattle.roundtrip.proofs.Demand3.{demand3}
+use Rattle.roundtrip.proofs.Demand3.{small, demand3}
 use Rattle.roundtrip.proofs.Rows.{Writes, Fit, row-law}
-
-small : (t : Bool) → cond t 0 1 < 2
-small true = omega arith
-small false = omega arith
 
 fit : (k : Look) (x : ℕ) → x < 2 ^ 64 → Fit k (keep k x)
 fit nothing x h = refl
