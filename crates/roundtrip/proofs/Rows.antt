@@ -22,7 +22,7 @@ use Rattle.words.proofs.MpidrWords.{mpidr32-wide, mpidr64-wide}
 use Rattle.function.specs.Functions.{mpidrForm, functionIdOf}
 use Rattle.function.specs.declared.Function.{Function}
 use Rattle.function.specs.declared.Function.the-variants.{AffinityInfo}
-use Rattle.calls.specs.Calls.{affinityInfo, ofCoreState}
+use Rattle.core_calls.specs.Calls.{affinityInfo, ofCoreState}
 use Rattle.decode.specs.Decode.{callOf}
 use Rattle.arguments.specs.Arguments.{argumentsOf}
 use Rattle.encode.specs.Encode.{wordsOf}

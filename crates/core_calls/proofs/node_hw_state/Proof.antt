@@ -1,8 +1,8 @@
--- `calls::node_hw_state` meets its contract.
+-- `core_calls::node_hw_state` meets its contract.
 -- Assumes nothing.
 use borrow.Author.Needs.{needs}
-use Rattle.calls.proofs.node_hw_state.Statement.{statement}
-use Rattle.calls.proofs.node_hw_state.Tie as tie
+use Rattle.core_calls.proofs.node_hw_state.Statement.{statement}
+use Rattle.core_calls.proofs.node_hw_state.Tie as tie
 
 pub node-hw-state-spec : {M : Type 1} → statement M
 node-hw-state-spec =

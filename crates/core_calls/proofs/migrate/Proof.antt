@@ -1,8 +1,8 @@
--- `calls::migrate` meets its contract.
+-- `core_calls::migrate` meets its contract.
 -- Assumes nothing.
 use borrow.Author.Needs.{needs}
-use Rattle.calls.proofs.migrate.Statement.{statement}
-use Rattle.calls.proofs.migrate.Tie as tie
+use Rattle.core_calls.proofs.migrate.Statement.{statement}
+use Rattle.core_calls.proofs.migrate.Tie as tie
 
 pub migrate-spec : {M : Type 1} → statement M
 migrate-spec =

@@ -1,8 +1,8 @@
--- `calls::cpu_on` meets its contract.
+-- `core_calls::cpu_on` meets its contract.
 -- Assumes nothing.
 use borrow.Author.Needs.{needs}
-use Rattle.calls.proofs.cpu_on.Statement.{statement}
-use Rattle.calls.proofs.cpu_on.Tie as tie
+use Rattle.core_calls.proofs.cpu_on.Statement.{statement}
+use Rattle.core_calls.proofs.cpu_on.Tie as tie
 
 pub cpu-on-spec : {M : Type 1} → statement M
 cpu-on-spec =
