@@ -161,16 +161,23 @@ fn words<const I: usize, const O: usize>(name: &'static str, list: &[[u64; I]], 
     Box::new(Pair { name, list: list.to_vec(), rust, rattle, none: nothing as Words<I, O> })
 }
 
-/// Each set with a record number, in turn; both sides must write what the judge writes.
+/// Each set with the number of a record.
+fn numbered(sets: &[[u64; 4]]) -> Vec<(usize, [u64; 4])> {
+    sets.iter().enumerate().map(|(i, regs)| (i % (line::MAX_NUMBER + 1), *regs)).collect()
+}
+
 fn lines(name: &'static str, sets: &[[u64; 4]]) -> Box<dyn Timed> {
-    let list: Vec<_> = sets.iter().enumerate().map(|(i, regs)| (i % (line::MAX_NUMBER + 1), *regs)).collect();
-    for (number, regs) in &list {
+    Box::new(Pair { name, list: numbered(sets), rust: rust_line as Line, rattle: rattle::psci_line, none: no_line })
+}
+
+/// Both sides must write what the judge writes: the sum of a timed list sees only a part of each line.
+fn judge_lines(sets: &[[u64; 4]]) {
+    for (number, regs) in numbered(sets) {
         for side in [rust_line as Line, rattle::psci_line] {
             let mut out = [0; 80];
-            assert_eq!((side(*number, regs, &mut out), out), line::judged(*number, regs, [0; 80]), "{name}: not the judge's line");
+            assert_eq!((side(number, &regs, &mut out), out), line::judged(number, &regs, [0; 80]), "not the judge's line");
         }
     }
-    Box::new(Pair { name, list, rust: rust_line as Line, rattle: rattle::psci_line, none: no_line })
 }
 
 fn main() {
@@ -201,6 +208,7 @@ fn main() {
         "calls" => println!("{}", named(word(1)).calls()),
         "count" => named(word(1)).count(word(2)),
         rounds => {
+            judge_lines(&mixed);
             let rounds = rounds.parse().unwrap_or(300);
             let empty = (0..rounds).map(|_| time(&mixed, nothing as Words<4, 4>).0).fold(f64::MAX, f64::min);
             println!("{} mixed sets, {} of them legal; an empty call takes {empty:.2} ns\n", mixed.len(), legal.len());
