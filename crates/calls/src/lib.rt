@@ -42,20 +42,26 @@ pub fn entry64(entry_point_address: u64, context_id: u64) -> EntryPoint
 
 // The state is made anew for each type: a copy of its eight bytes would be one store across what are two fields in other calls, and the
 // compiler would then keep all of them in memory until the end (docs/BENCHMARKS.md).
+fn suspend(state: PowerState, entry: EntryPoint) -> Function
+    ensures { λ r. ⌜ r ≡ CpuSuspend state entry ⌝ }
+{
+    match state {
+        PowerState::StandbyOrRetention(state_id) => Function::CpuSuspend {
+            state: PowerState::StandbyOrRetention(state_id),
+            entry,
+        },
+        PowerState::PowerDown(state_id) => Function::CpuSuspend {
+            state: PowerState::PowerDown(state_id),
+            entry,
+        },
+    }
+}
+
 pub fn cpu_suspend(state: PowerStateResult, entry: EntryPoint) -> FunctionResult
     ensures { λ r. ⌜ functionAnswer r ≡ through (λ s. CpuSuspend s entry) (powerStateAnswer state) ⌝ }
 {
     match state {
-        PowerStateResult::Ok(state) => match state {
-            PowerState::StandbyOrRetention(state_id) => FunctionResult::Ok(Function::CpuSuspend {
-                state: PowerState::StandbyOrRetention(state_id),
-                entry,
-            }),
-            PowerState::PowerDown(state_id) => FunctionResult::Ok(Function::CpuSuspend {
-                state: PowerState::PowerDown(state_id),
-                entry,
-            }),
-        },
+        PowerStateResult::Ok(state) => FunctionResult::Ok(suspend(state, entry)),
         PowerStateResult::Err(error) => FunctionResult::Err(error),
     }
 }
@@ -80,22 +86,27 @@ pub fn set_suspend_mode(mode: SuspendModeResult) -> FunctionResult
     }
 }
 
-// The type is made anew for each kind, as a power state is in `cpu_suspend`.
+// The type is made anew for each kind, as a power state is in `suspend`.
+fn reset2(reset_type: ResetType, cookie: Cookie) -> Function
+    ensures { λ r. ⌜ r ≡ SystemReset2 «reset_type» cookie ⌝ }
+{
+    match reset_type {
+        ResetType::Architectural(architectural) => Function::SystemReset2 {
+            reset_type: ResetType::Architectural(architectural),
+            cookie,
+        },
+        ResetType::VendorSpecific(vendor_specific) => Function::SystemReset2 {
+            reset_type: ResetType::VendorSpecific(vendor_specific),
+            cookie,
+        },
+    }
+}
+
 pub fn system_reset2(reset_type: ResetTypeResult, cookie: Cookie) -> FunctionResult
     ensures { λ r. ⌜ functionAnswer r ≡ through (λ t. SystemReset2 t cookie) (resetTypeAnswer «reset_type») ⌝ }
 {
     match reset_type {
-        ResetTypeResult::Ok(reset_type) => match reset_type {
-            ResetType::Architectural(architectural) => FunctionResult::Ok(Function::SystemReset2 {
-                reset_type: ResetType::Architectural(architectural),
-                cookie,
-            }),
-            ResetType::VendorSpecific(vendor_specific) =>
-                FunctionResult::Ok(Function::SystemReset2 {
-                    reset_type: ResetType::VendorSpecific(vendor_specific),
-                    cookie,
-                }),
-        },
+        ResetTypeResult::Ok(reset_type) => FunctionResult::Ok(reset2(reset_type, cookie)),
         ResetTypeResult::Err(error) => FunctionResult::Err(error),
     }
 }

@@ -9,9 +9,7 @@ cpu-suspend-spec =
     tie.close
     (tie.spec
     (λ c. search needs)
+    (λ c κs. search needs)
     (λ c. search needs)
-    (λ c. search needs)
-    (λ c. search needs)
-    (λ c. simp (c .before .state2 .given .1, c .before .before .before .before .state .given .1))
-    (λ c. simp (c .before .state3 .given .1, c .before .before .before .before .state .given .1))
-    (λ c. simp (c .before .state4 .given .1)))
+    (λ c. simp (c .suspend .ensures, c .before .before .state .given .1))
+    (λ c. simp (c .before .state2 .given .1)))

@@ -9,9 +9,7 @@ system-reset2-spec =
     tie.close
     (tie.spec
     (λ c. search needs)
+    (λ c κs. search needs)
     (λ c. search needs)
-    (λ c. search needs)
-    (λ c. search needs)
-    (λ c. simp (c .before .reset-type2 .given .1, c .before .before .before .before .reset-type .given .1))
-    (λ c. simp (c .before .reset-type3 .given .1, c .before .before .before .before .reset-type .given .1))
-    (λ c. simp (c .before .reset-type4 .given .1)))
+    (λ c. simp (c .reset2 .ensures, c .before .before .reset-type .given .1))
+    (λ c. simp (c .before .reset-type2 .given .1)))
