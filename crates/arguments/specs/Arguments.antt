@@ -1,5 +1,4 @@
 -- Document 01, "The four written words": the fields stand in their registers, all other bits are zero.
-use mathlib.Core.Bool.{Bool, true, false}
 use mathlib.Core.List.{List, [], _∷_}
 use Prim.Native.Nat.{ℕ}
 use Rattle.refusals.specs.Answers.{Answer, accepted, through}
@@ -11,10 +10,7 @@ use Rattle.words.specs.PsciFeatures.{featureNumber}
 use Rattle.words.specs.ResetTypes.{writeResetType}
 use Rattle.words.specs.SuspendModes.{suspendModeNumber}
 use Rattle.words.specs.SystemOff2Types.{systemOff2Number}
-use Rattle.words.specs.declared.cookies.Cookie.{Cookie}
-use Rattle.words.specs.declared.cookies.Cookie.the-variants.{Cookie32, Cookie64}
-use Rattle.words.specs.declared.mem_protect_ranges.MemProtectRange.{MemProtectRange}
-use Rattle.words.specs.declared.mem_protect_ranges.MemProtectRange.the-variants.{Range32, Range64}
+use Rattle.field_words.specs.FieldWords.{cookieWord, baseWord, lengthWord, flagWord}
 use Rattle.function.specs.declared.Function.{Function}
 use Rattle.function.specs.declared.Function.the-variants.{Version, CpuSuspend, CpuOff, CpuOn, AffinityInfo, Migrate, MigrateInfoType, MigrateInfoUpCpu, SystemOff, SystemOff2, SystemReset, SystemReset2, MemProtect, MemProtectCheckRange, Features, CpuFreeze, CpuDefaultSuspend, NodeHwState, SystemSuspend, SetSuspendMode, StatResidency, StatCount}
 use Rattle.arguments.specs.declared.Arguments.{Arguments}
@@ -24,23 +20,6 @@ use Rattle.arguments.specs.declared.ArgumentsResult.the-variants.{Ok, Er
 abbrev pub argumentsAnswer : ArgumentsResult → Answer (List ℕ)
 argumentsAnswer (Ok a) = accepted (a .r1 ∷ a .r2 ∷ a .r3 ∷ [])
 argumentsAnswer (Err e) = refusal e
-
-abbrev pub cookieWord : Cookie → ℕ
-cookieWord (Cookie32 word) = word
-cookieWord (Cookie64 word) = word
-
-abbrev pub baseWord : MemProtectRange → ℕ
-baseWord (Range32 base extent) = base
-baseWord (Range64 base extent) = base
-
-abbrev pub lengthWord : MemProtectRange → ℕ
-lengthWord (Range32 base extent) = extent
-lengthWord (Range64 base extent) = extent
-
--- memory protect writes 1 or 0
-abbrev pub flagWord : Bool → ℕ
-flagWord true = 1
-flagWord false = 0
 
 abbrev three : ℕ → ℕ → ℕ → Answer (List ℕ)
 three x y z = accepted (x ∷ y ∷ z ∷ [])

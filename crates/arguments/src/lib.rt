@@ -3,13 +3,14 @@ ghost use mathlib.Core.Path.{_≡_};
 ghost use mathlib.Core.List.{_∷_, []};
 ghost use Rattle.refusals.specs.Answers.{accepted, through};
 ghost use Rattle.refusals.specs.Errors.{wordAnswer};
-ghost use Rattle.arguments.specs.Arguments.{argumentsAnswer, argumentsOf, cookieWord, baseWord, lengthWord, flagWord};
+ghost use Rattle.arguments.specs.Arguments.{argumentsAnswer, argumentsOf};
+use field_words::base_word;
+use field_words::cookie_word;
+use field_words::flag_word;
+use field_words::length_word;
 use function::Function;
 use refusals::Error;
 use refusals::WordResult;
-use words::Cookie;
-use words::EntryPoint;
-use words::MemProtectRange;
 
 // Words 1 to 3 of a call.
 pub struct Arguments {
@@ -119,37 +120,4 @@ fn wide(word: u32) -> u64
     ensures { λ r. ⌜ r ≡ word ⌝ }
 {
     word as u64
-}
-
-pub fn cookie_word(cookie: Cookie) -> u64
-    ensures { λ r. ⌜ r ≡ cookieWord cookie ⌝ }
-{
-    match cookie {
-        Cookie::Cookie32(value) => value as u64,
-        Cookie::Cookie64(value) => value,
-    }
-}
-
-pub fn base_word(range: MemProtectRange) -> u64
-    ensures { λ r. ⌜ r ≡ baseWord range ⌝ }
-{
-    match range {
-        MemProtectRange::Range32 { base, length: _ } => base as u64,
-        MemProtectRange::Range64 { base, length: _ } => base,
-    }
-}
-
-pub fn length_word(range: MemProtectRange) -> u64
-    ensures { λ r. ⌜ r ≡ lengthWord range ⌝ }
-{
-    match range {
-        MemProtectRange::Range32 { base: _, length } => length as u64,
-        MemProtectRange::Range64 { base: _, length } => length,
-    }
-}
-
-pub fn flag_word(enabled: bool) -> u64
-    ensures { λ r. ⌜ r ≡ flagWord enabled ⌝ }
-{
-    if enabled { 1 } else { 0 }
 }

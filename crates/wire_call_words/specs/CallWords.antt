@@ -3,7 +3,7 @@ use mathlib.Core.List.{List, [], _∷_, _++_}
 use Prim.Native.Nat.{ℕ}
 use Rattle.function.specs.declared.Function.{Function}
 use Rattle.function.specs.declared.Function.the-variants as call
-use Rattle.arguments.specs.Arguments.{flagWord}
+use Rattle.field_words.specs.FieldWords.{flagWord}
 use Rattle.wire_parts.specs.Parts.{nine, mpidrParts, powerStateParts, entryParts, cookieParts, rangeParts, resetTypeParts, featureParts, modePlace}
 
 -- the tag, which is the place in the enum Function; the parts of its fields in their order

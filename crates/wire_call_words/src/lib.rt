@@ -1,10 +1,10 @@
 // A call as nine words.
 ghost use mathlib.Core.Path.{_≡_};
 ghost use Rattle.wire_call_words.specs.CallWords.{callWords};
-use arguments::base_word;
-use arguments::cookie_word;
-use arguments::flag_word;
-use arguments::length_word;
+use field_words::base_word;
+use field_words::cookie_word;
+use field_words::flag_word;
+use field_words::length_word;
 use function::Function;
 use wire_parts::entry_of;
 use wire_parts::mpidr_and;

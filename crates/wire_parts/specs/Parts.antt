@@ -31,7 +31,7 @@ use Rattle.words.specs.declared.suspend_modes.SuspendMode.{SuspendMode}
 use Rattle.words.specs.declared.suspend_modes.SuspendMode.the-variants.{PlatformCoordinated, OsInitiated}
 use Rattle.words.specs.declared.versions.Version.{Version}
 use Rattle.function.specs.Functions.{entryForm, cookieForm, rangeForm, mpidrForm}
-use Rattle.arguments.specs.Arguments.{cookieWord, baseWord, lengthWord}
+use Rattle.field_words.specs.FieldWords.{cookieWord, baseWord, lengthWord}
 
 -- the first nine of some words, and zeros for those that are lacking
 abbrev pub nine : List ℕ → List ℕ
