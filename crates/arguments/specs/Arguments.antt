@@ -3,11 +3,11 @@ use mathlib.Core.List.{List, [], _∷_}
 use Prim.Native.Nat.{ℕ}
 use Rattle.refusals.specs.Answers.{Answer, accepted, through}
 use Rattle.refusals.specs.Errors.{refusal}
+use Rattle.mpidrs.specs.Mpidrs.{writeMpidr64}
+use Rattle.compound_words.specs.PowerStates.{writePowerState}
+use Rattle.compound_words.specs.ResetTypes.{writeResetType}
 use Rattle.words.specs.EntryPoints.{entryAddress, entryContext}
-use Rattle.words.specs.Mpidrs.{writeMpidr64}
-use Rattle.words.specs.PowerStates.{writePowerState}
 use Rattle.words.specs.PsciFeatures.{featureNumber}
-use Rattle.words.specs.ResetTypes.{writeResetType}
 use Rattle.words.specs.SuspendModes.{suspendModeNumber}
 use Rattle.words.specs.SystemOff2Types.{systemOff2Number}
 use Rattle.field_words.specs.FieldWords.{cookieWord, baseWord, lengthWord, flagWord}

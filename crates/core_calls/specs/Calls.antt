@@ -4,8 +4,8 @@ use Prim.Native.Nat.{ℕ}
 use lib.Dec.{leb}
 use lib.IntN.{pos}
 use Rattle.refusals.specs.Answers.{Answer, refused, through, andThen}
-use Rattle.words.specs.declared.mpidrs.Mpidr.{Mpidr}
-use Rattle.words.specs.declared.power_states.PowerState.{PowerState}
+use Rattle.mpidrs.specs.declared.Mpidr.{Mpidr}
+use Rattle.compound_words.specs.declared.power_states.PowerState.{PowerState}
 use Rattle.function.specs.declared.Function.{Function}
 use Rattle.function.specs.declared.Function.the-variants.{AffinityInfo}
 

@@ -1,17 +1,17 @@
 // A call on a core from its fields as they were read: the first refused field is the answer.
 ghost use mathlib.Core.Path.{_≡_};
 ghost use Rattle.refusals.specs.Answers.{through};
-ghost use Rattle.words.specs.Mpidrs.{mpidrAnswer};
-ghost use Rattle.words.specs.PowerStates.{powerStateAnswer};
+ghost use Rattle.mpidrs.specs.Mpidrs.{mpidrAnswer};
+ghost use Rattle.compound_words.specs.PowerStates.{powerStateAnswer};
 ghost use Rattle.function.specs.Functions.{functionAnswer};
 ghost use Rattle.function.specs.declared.Function.the-variants.{CpuOn, Migrate, NodeHwState, StatResidency, StatCount};
 ghost use Rattle.core_calls.specs.Calls.{affinityInfo, ofCoreState};
+use compound_words::PowerStateResult;
 use function::Function;
 use function::FunctionResult;
+use mpidrs::MpidrResult;
 use refusals::Error;
 use words::EntryPoint;
-use words::MpidrResult;
-use words::PowerStateResult;
 
 pub fn cpu_on(mpidr: MpidrResult, entry: EntryPoint) -> FunctionResult
     ensures { λ r. ⌜ functionAnswer r ≡ through (λ m. CpuOn m entry) (mpidrAnswer mpidr) ⌝ }

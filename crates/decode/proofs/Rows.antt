@@ -10,10 +10,10 @@ use Rattle.function_ids.specs.CallTable.{ruleOf, numberIn}
 use Rattle.function_ids.specs.FunctionIds.{functionNumber}
 use Rattle.function_ids.specs.declared.FunctionId.{FunctionId}
 use Rattle.function_ids.specs.declared.FunctionId.the-variants as id
-use Rattle.words.specs.Mpidrs.{readMpidr32, readMpidr64}
-use Rattle.words.specs.PowerStates.{readPowerState}
+use Rattle.mpidrs.specs.Mpidrs.{readMpidr32, readMpidr64}
+use Rattle.compound_words.specs.PowerStates.{readPowerState}
+use Rattle.compound_words.specs.ResetTypes.{readResetType}
 use Rattle.words.specs.PsciFeatures.{readFeature}
-use Rattle.words.specs.ResetTypes.{readResetType}
 use Rattle.words.specs.SuspendModes.{readSuspendMode}
 use Rattle.words.specs.SystemOff2Types.{readSystemOff2Type}
 use Rattle.words.specs.declared.entry_points.EntryPoint.the-variants.{Entry32, Entry64}

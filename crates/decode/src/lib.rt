@@ -2,15 +2,15 @@
 ghost use mathlib.Core.Path.{_≡_};
 ghost use Rattle.function.specs.Functions.{functionAnswer};
 ghost use Rattle.decode.specs.Decode.{decodeOf};
+use compound_words::PowerState;
+use compound_words::ResetType;
 use function::Function;
 use function::FunctionResult;
+use mpidrs::Mpidr;
 use refusals::Error;
 use words::Cookie;
 use words::MemProtectRange;
-use words::Mpidr;
-use words::PowerState;
 use words::PsciFeature;
-use words::ResetType;
 use words::SuspendMode;
 use words::SystemOff2Type;
 

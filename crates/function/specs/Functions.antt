@@ -7,8 +7,8 @@ use Rattle.refusals.specs.Errors.{refusal}
 use Rattle.function_ids.specs.CallTable.{Form, narrow, wide}
 use Rattle.function_ids.specs.declared.FunctionId.{FunctionId}
 use Rattle.function_ids.specs.declared.FunctionId.the-variants as id
-use Rattle.words.specs.declared.mpidrs.Aff3.{Aff3}
-use Rattle.words.specs.declared.mpidrs.Aff3.the-variants.{None, Some}
+use Rattle.mpidrs.specs.declared.Aff3.{Aff3}
+use Rattle.mpidrs.specs.declared.Aff3.the-variants.{None, Some}
 use Rattle.words.specs.declared.entry_points.EntryPoint.{EntryPoint}
 use Rattle.words.specs.declared.entry_points.EntryPoint.the-variants.{Entry32, Entry64}
 use Rattle.words.specs.declared.cookies.Cookie.{Cookie}

@@ -1,5 +1,6 @@
 -- What it means that a reader and a writer invert each other.
 use mathlib.Core.Path.{_≡_}
+use Prim.Native.Nat.{ℕ, _<_, _^_}
 use Rattle.refusals.specs.Answers.{Answer, accepted}
 
 -- what the reader accepts of some words, the writer writes back
@@ -13,3 +14,14 @@ ReadsBack {A} {W} Value write read = (a : A) (w : W) → Value a → write a ≡
 -- a writer that never refuses
 abbrev pub always : {A W : Type 0} → (A → W) → A → Answer W
 always write a = accepted (write a)
+
+-- the words of 32 and of 64 bits
+abbrev pub Word32 : ℕ → Type 0
+Word32 word = word < 2 ^ 32
+
+abbrev pub Word64 : ℕ → Type 0
+Word64 word = word < 2 ^ 64
+
+-- every value of a type
+abbrev pub Any : {A : Type 0} → A → Type 0
+Any a = Unit {0}

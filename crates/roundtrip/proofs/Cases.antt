@@ -3,10 +3,10 @@ use mathlib.Core.Path.{refl}
 use Rattle.codes.specs.Codes.{readErrorCode, readErrorCode64}
 use Rattle.function_ids.specs.CallTable.{ruleOf}
 use Rattle.function_ids.specs.FunctionIds.{readFunctionId}
-use Rattle.words.specs.Mpidrs.{readMpidr32, readMpidr64, writeMpidr64}
-use Rattle.words.specs.PowerStates.{readPowerState}
-use Rattle.words.specs.ResetTypes.{readArchitecturalResetType, readResetType}
-use Rattle.words.specs.Versions.{readVersion}
+use Rattle.mpidrs.specs.Mpidrs.{readMpidr32, readMpidr64, writeMpidr64}
+use Rattle.compound_words.specs.PowerStates.{readPowerState}
+use Rattle.compound_words.specs.ResetTypes.{readArchitecturalResetType, readResetType}
+use Rattle.compound_words.specs.Versions.{readVersion}
 use Rattle.function.specs.Functions.{functionIdOf}
 use Rattle.decode.specs.Decode.{callIn, decodeOf}
 use Rattle.arguments.specs.Arguments.{argumentsOf}

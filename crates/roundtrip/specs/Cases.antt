@@ -8,15 +8,15 @@ use Rattle.bits.specs.Signs.{signed, wordOf}
 use Rattle.refusals.specs.Answers.{accepted, refused}
 use Rattle.codes.specs.Codes.{codeNumber, readErrorCode, readErrorCode64}
 use Rattle.codes.specs.declared.ErrorCode.the-variants.{InvalidAddress}
-use Rattle.words.specs.Mpidrs.{mpidrOf}
-use Rattle.words.specs.PowerStates.{readPowerState}
-use Rattle.words.specs.ResetTypes.{readResetType}
-use Rattle.words.specs.Versions.{versionOf, readVersion}
-use Rattle.words.specs.declared.mpidrs.Aff3.the-variants.{Some}
+use Rattle.mpidrs.specs.Mpidrs.{mpidrOf}
+use Rattle.mpidrs.specs.declared.Aff3.the-variants.{Some}
+use Rattle.compound_words.specs.PowerStates.{readPowerState}
+use Rattle.compound_words.specs.ResetTypes.{readResetType}
+use Rattle.compound_words.specs.Versions.{versionOf, readVersion}
+use Rattle.compound_words.specs.declared.power_states.PowerState.the-variants.{PowerDown}
+use Rattle.compound_words.specs.declared.reset_types.ArchitecturalResetType.the-variants.{SystemWarmReset}
+use Rattle.compound_words.specs.declared.reset_types.ResetType.the-variants.{Architectural, VendorSpecific}
 use Rattle.words.specs.declared.entry_points.EntryPoint.the-variants.{Entry64}
-use Rattle.words.specs.declared.power_states.PowerState.the-variants.{PowerDown}
-use Rattle.words.specs.declared.reset_types.ArchitecturalResetType.the-variants.{SystemWarmReset}
-use Rattle.words.specs.declared.reset_types.ResetType.the-variants.{Architectural, VendorSpecific}
 use Rattle.function.specs.declared.Function.{Function}
 use Rattle.function.specs.declared.Function.the-variants.{Version, CpuOff, CpuOn, AffinityInfo, MemProtect}
 use Rattle.decode.specs.Decode.{decodeOf}

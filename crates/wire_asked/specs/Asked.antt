@@ -20,9 +20,17 @@ use Rattle.codes.specs.declared.ErrorCode.{ErrorCode}
 use Rattle.codes.specs.declared.ErrorCode.the-variants.{NotSupported}
 use Rattle.codes.specs.declared.ReturnCode.{ReturnCode}
 use Rattle.codes.specs.declared.ReturnCode.the-variants as return
+use Rattle.mpidrs.specs.Mpidrs.{mpidrOf}
+use Rattle.mpidrs.specs.declared.Aff3.the-variants.{None, Some}
+use Rattle.mpidrs.specs.declared.Mpidr.{Mpidr}
+use Rattle.compound_words.specs.Versions.{versionOf}
+use Rattle.compound_words.specs.declared.power_states.PowerState.{PowerState}
+use Rattle.compound_words.specs.declared.power_states.PowerState.the-variants.{StandbyOrRetention, PowerDown}
+use Rattle.compound_words.specs.declared.reset_types.ArchitecturalResetType.the-variants.{SystemWarmReset}
+use Rattle.compound_words.specs.declared.reset_types.ResetType.{ResetType}
+use Rattle.compound_words.specs.declared.reset_types.ResetType.the-variants.{Architectural, VendorSpecific}
+use Rattle.compound_words.specs.declared.versions.Version.{Version}
 use Rattle.words.specs.HwStates.{hwStates}
-use Rattle.words.specs.Mpidrs.{mpidrOf}
-use Rattle.words.specs.Versions.{versionOf}
 use Rattle.words.specs.declared.cookies.Cookie.{Cookie}
 use Rattle.words.specs.declared.cookies.Cookie.the-variants.{Cookie32, Cookie64}
 use Rattle.words.specs.declared.entry_points.EntryPoint.{EntryPoint}
@@ -31,18 +39,10 @@ use Rattle.words.specs.declared.hw_states.HwState.{HwState}
 use Rattle.words.specs.declared.hw_states.HwState.the-variants.{On}
 use Rattle.words.specs.declared.mem_protect_ranges.MemProtectRange.{MemProtectRange}
 use Rattle.words.specs.declared.mem_protect_ranges.MemProtectRange.the-variants.{Range32, Range64}
-use Rattle.words.specs.declared.mpidrs.Aff3.the-variants.{None, Some}
-use Rattle.words.specs.declared.mpidrs.Mpidr.{Mpidr}
-use Rattle.words.specs.declared.power_states.PowerState.{PowerState}
-use Rattle.words.specs.declared.power_states.PowerState.the-variants.{StandbyOrRetention, PowerDown}
 use Rattle.words.specs.declared.psci_features.PsciFeature.{PsciFeature}
 use Rattle.words.specs.declared.psci_features.PsciFeature.the-variants.{PsciFunction, SmcccVersion}
-use Rattle.words.specs.declared.reset_types.ArchitecturalResetType.the-variants.{SystemWarmReset}
-use Rattle.words.specs.declared.reset_types.ResetType.{ResetType}
-use Rattle.words.specs.declared.reset_types.ResetType.the-variants.{Architectural, VendorSpecific}
 use Rattle.words.specs.declared.suspend_modes.SuspendMode.{SuspendMode}
 use Rattle.words.specs.declared.suspend_modes.SuspendMode.the-variants.{PlatformCoordinated, OsInitiated}
-use Rattle.words.specs.declared.versions.Version.{Version}
 use Rattle.wire_parts.specs.Parts.{functionPlace, hwStatePlace, codePlace}
 
 abbrev pub low : ℕ → ℕ

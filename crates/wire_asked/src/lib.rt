@@ -9,17 +9,17 @@ pub mod places;
 use crate::places::code_at;
 use crate::places::function_at;
 use codes::ReturnCode;
-use words::Aff3;
-use words::ArchitecturalResetType;
+use compound_words::ArchitecturalResetType;
+use compound_words::PowerState;
+use compound_words::ResetType;
+use compound_words::Version;
+use mpidrs::Aff3;
+use mpidrs::Mpidr;
 use words::Cookie;
 use words::EntryPoint;
 use words::MemProtectRange;
-use words::Mpidr;
-use words::PowerState;
 use words::PsciFeature;
-use words::ResetType;
 use words::SuspendMode;
-use words::Version;
 
 pub fn low32(part: u64) -> u32
     ensures { λ r. ⌜ r ≡ low part ⌝ }

@@ -7,16 +7,16 @@ use Rattle.bits.specs.Signs.{signed, wordOf}
 use Rattle.refusals.specs.Answers.{Answer, accepted, refused, choose, through}
 use Rattle.function_ids.specs.FunctionIds.{functionNumber, readFunctionId}
 use Rattle.codes.specs.Codes.{readErrorCode, readErrorCode64, readReturnCode, codeNumber, returnNumber, errorCodeOf}
+use Rattle.mpidrs.specs.Mpidrs.{mpidrOf, mpidr64, readMpidr32, readMpidr64, writeMpidr32, writeMpidr64}
+use Rattle.mpidrs.specs.declared.Aff3.the-variants.{None, Some}
+use Rattle.compound_words.specs.PowerStates.{readPowerState, writePowerState}
+use Rattle.compound_words.specs.ResetTypes.{readArchitecturalResetType, readResetType, writeResetType}
+use Rattle.compound_words.specs.Versions.{readVersion, writeVersion}
 use Rattle.words.specs.EntryPoints.{entryAddress, entryContext}
 use Rattle.words.specs.HwStates.{readHwState, hwStateNumber}
-use Rattle.words.specs.Mpidrs.{mpidrOf, mpidr64, readMpidr32, readMpidr64, writeMpidr32, writeMpidr64}
-use Rattle.words.specs.PowerStates.{readPowerState, writePowerState}
 use Rattle.words.specs.PsciFeatures.{readFeature, featureNumber}
-use Rattle.words.specs.ResetTypes.{readArchitecturalResetType, readResetType, writeResetType}
 use Rattle.words.specs.SuspendModes.{readSuspendMode, suspendModeNumber}
 use Rattle.words.specs.SystemOff2Types.{readSystemOff2Type}
-use Rattle.words.specs.Versions.{readVersion, writeVersion}
-use Rattle.words.specs.declared.mpidrs.Aff3.the-variants.{None, Some}
 use Rattle.wire_parts.specs.Parts.{mpidrWords, powerStateWords, entryWords, resetTypeWords, functionPlace, featureWords, modePlace, hwStatePlace, codePlace, versionWords, returnCodeWords, placeWords, errorWords}
 use Rattle.wire_asked.specs.Asked.{byte, mpidrIn, powerStateIn, entryIn, resetTypeIn, functionAt, featureIn, modeIn, hwStateAt, codeAt, returnCodeIn, versionIn, errorIn}
 use Rattle.wire_records.specs.Records.{nineIn, turnedBack, gives, writesWord, wordIn, part}

@@ -4,7 +4,12 @@ ghost use mathlib.Core.Path.{_≡_};
 ghost use lib.ListN.{getD};
 ghost use Rattle.wire_operations.specs.Operations.{answerOf};
 use codes::ErrorCode;
+use compound_words::ArchitecturalResetType;
+use compound_words::PowerState;
+use compound_words::ResetType;
+use compound_words::Version;
 use function_ids::FunctionId;
+use mpidrs::Mpidr;
 use wire_call_records::decode_record;
 use wire_call_records::encode_record;
 use wire_call_records::function_id_record;
@@ -13,15 +18,10 @@ use wire_records::given;
 use wire_records::long_word;
 use wire_records::turned_back;
 use wire_records::word;
-use words::ArchitecturalResetType;
 use words::HwState;
-use words::Mpidr;
-use words::PowerState;
 use words::PsciFeature;
-use words::ResetType;
 use words::SuspendMode;
 use words::SystemOff2Type;
-use words::Version;
 
 // The answer to a record.
 pub fn answer(w: [u64; 16]) -> [u64; 16]

@@ -13,23 +13,23 @@ use Rattle.codes.specs.declared.ErrorCode.{ErrorCode}
 use Rattle.codes.specs.declared.ErrorCode.the-variants as code
 use Rattle.codes.specs.declared.ReturnCode.{ReturnCode}
 use Rattle.codes.specs.declared.ReturnCode.the-variants as return
+use Rattle.mpidrs.specs.Mpidrs.{aff3Number}
+use Rattle.mpidrs.specs.declared.Mpidr.{Mpidr}
+use Rattle.compound_words.specs.declared.power_states.PowerState.{PowerState}
+use Rattle.compound_words.specs.declared.power_states.PowerState.the-variants.{StandbyOrRetention, PowerDown}
+use Rattle.compound_words.specs.declared.reset_types.ResetType.{ResetType}
+use Rattle.compound_words.specs.declared.reset_types.ResetType.the-variants.{Architectural, VendorSpecific}
+use Rattle.compound_words.specs.declared.versions.Version.{Version}
 use Rattle.words.specs.EntryPoints.{entryAddress, entryContext}
-use Rattle.words.specs.Mpidrs.{aff3Number}
 use Rattle.words.specs.declared.cookies.Cookie.{Cookie}
 use Rattle.words.specs.declared.entry_points.EntryPoint.{EntryPoint}
 use Rattle.words.specs.declared.hw_states.HwState.{HwState}
 use Rattle.words.specs.declared.hw_states.HwState.the-variants as state
 use Rattle.words.specs.declared.mem_protect_ranges.MemProtectRange.{MemProtectRange}
-use Rattle.words.specs.declared.mpidrs.Mpidr.{Mpidr}
-use Rattle.words.specs.declared.power_states.PowerState.{PowerState}
-use Rattle.words.specs.declared.power_states.PowerState.the-variants.{StandbyOrRetention, PowerDown}
 use Rattle.words.specs.declared.psci_features.PsciFeature.{PsciFeature}
 use Rattle.words.specs.declared.psci_features.PsciFeature.the-variants.{PsciFunction, SmcccVersion}
-use Rattle.words.specs.declared.reset_types.ResetType.{ResetType}
-use Rattle.words.specs.declared.reset_types.ResetType.the-variants.{Architectural, VendorSpecific}
 use Rattle.words.specs.declared.suspend_modes.SuspendMode.{SuspendMode}
 use Rattle.words.specs.declared.suspend_modes.SuspendMode.the-variants.{PlatformCoordinated, OsInitiated}
-use Rattle.words.specs.declared.versions.Version.{Version}
 use Rattle.function.specs.Functions.{entryForm, cookieForm, rangeForm, mpidrForm}
 use Rattle.field_words.specs.FieldWords.{cookieWord, baseWord, lengthWord}
 

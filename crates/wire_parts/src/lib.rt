@@ -20,13 +20,13 @@ use crate::parts::vendor_type;
 use crate::parts::wide8;
 use crate::parts::wide16;
 use codes::ReturnCode;
+use compound_words::PowerState;
+use compound_words::ResetType;
+use compound_words::Version;
+use mpidrs::Mpidr;
 use refusals::Error;
 use words::EntryPoint;
-use words::Mpidr;
-use words::PowerState;
 use words::PsciFeature;
-use words::ResetType;
-use words::Version;
 
 pub fn three(tag: u64, a: u64, b: u64, c: u64) -> [u64; 9]
     ensures { λ r. ⌜ r ≡ nine (tag ∷ a ∷ b ∷ c ∷ []) ⌝ }

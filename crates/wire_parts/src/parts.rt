@@ -1,19 +1,19 @@
 // The parts of a value, each as a word.
 ghost use mathlib.Core.Path.{_≡_};
 ghost use Rattle.function.specs.Functions.{entryForm, cookieForm, rangeForm, mpidrForm};
-ghost use Rattle.words.specs.Mpidrs.{aff3Number};
+ghost use Rattle.mpidrs.specs.Mpidrs.{aff3Number};
 ghost use Rattle.wire_parts.specs.Parts.{formPart, downPart, stateId, vendorPart, vendorType, smcccPart, featurePlace, failurePart, failurePlace};
 use crate::places::code_place;
 use crate::places::function_place;
 use codes::ReturnCode;
-use words::Aff3;
+use compound_words::PowerState;
+use compound_words::ResetType;
+use mpidrs::Aff3;
+use mpidrs::Mpidr;
 use words::Cookie;
 use words::EntryPoint;
 use words::MemProtectRange;
-use words::Mpidr;
-use words::PowerState;
 use words::PsciFeature;
-use words::ResetType;
 
 pub fn wide8(byte: u8) -> u64
     ensures { λ r. ⌜ r ≡ byte ⌝ }

@@ -4,7 +4,7 @@ use Prim.Native.Nat.{ℕ}
 use borrow.Author.Tests.{eqb-true, ne-eqb}
 use Rattle.bits.proofs.Picks.{if-false}
 use Rattle.refusals.specs.Answers.{accepted, through}
-use Rattle.refusals.specs.Inverses.{WritesBack, ReadsBack, always}
+use Rattle.refusals.specs.Inverses.{WritesBack, ReadsBack, always, Word32, Any}
 use Rattle.refusals.proofs.Answering.{not-accepted, at-once-or-through}
 use Rattle.refusals.proofs.Choosing.{numbered-writes, numbered-reads}
 use Rattle.refusals.proofs.Inverting.{writes-always, reads-always}
@@ -12,33 +12,17 @@ use Rattle.function_ids.specs.FunctionIds.{functionNumber, readFunctionId}
 use Rattle.function_ids.proofs.Table.{function-number, function-back}
 use Rattle.function_ids.specs.declared.FunctionId.{FunctionId}
 use Rattle.words.specs.HwStates.{hwStateNumber, hwStates, readHwState}
-use Rattle.words.specs.Inverses.{Word32, Any}
 use Rattle.words.specs.PsciFeatures.{featureNumber, readFeature}
-use Rattle.words.specs.ResetTypes.{architecturalNumber, architecturalTypes, readArchitecturalResetType}
 use Rattle.words.specs.SuspendModes.{suspendModeNumber, suspendModes, readSuspendMode}
 use Rattle.words.specs.SystemOff2Types.{systemOff2Number, systemOff2Types, readSystemOff2Type}
 use Rattle.words.specs.declared.hw_states.HwState.{HwState}
 use Rattle.words.specs.declared.hw_states.HwState.the-variants.{On, Off, Standby}
 use Rattle.words.specs.declared.psci_features.PsciFeature.{PsciFeature}
 use Rattle.words.specs.declared.psci_features.PsciFeature.the-variants.{PsciFunction, SmcccVersion}
-use Rattle.words.specs.declared.reset_types.ArchitecturalResetType.{ArchitecturalResetType}
-use Rattle.words.specs.declared.reset_types.ArchitecturalResetType.the-variants.{SystemWarmReset}
 use Rattle.words.specs.declared.suspend_modes.SuspendMode.{SuspendMode}
 use Rattle.words.specs.declared.suspend_modes.SuspendMode.the-variants.{PlatformCoordinated, OsInitiated}
 use Rattle.words.specs.declared.system_off2_types.SystemOff2Type.{SystemOff2Type}
 use Rattle.words.specs.declared.system_off2_types.SystemOff2Type.the-variants.{HibernateOff}
-
-architectural-back : (t : ArchitecturalResetType) → readArchitecturalResetType (architecturalNumber t) ≡ accepted t
-unfolding readArchitecturalResetType
-architectural-back SystemWarmReset = refl
-
-pub architectural-writes-back : WritesBack Word32 readArchitecturalResetType (always architecturalNumber)
-unfolding readArchitecturalResetType
-architectural-writes-back = numbered-writes architecturalNumber architecturalTypes 7 Word32
-
-pub architectural-reads-back : ReadsBack Any (always architecturalNumber) readArchitecturalResetType
-unfolding readArchitecturalResetType
-architectural-reads-back = numbered-reads architecturalNumber architecturalTypes 7 Any architectural-back
 
 off-type-back : (t : SystemOff2Type) → readSystemOff2Type (systemOff2Number t) ≡ accepted t
 unfolding readSystemOff2Type

@@ -1,10 +1,6 @@
 pub mod EntryPoints
 pub mod HwStates
 pub mod Inverses
-pub mod Mpidrs
-pub mod PowerStates
 pub mod PsciFeatures
-pub mod ResetTypes
 pub mod SuspendModes
 pub mod SystemOff2Types
-pub mod Versions

@@ -1,35 +1,20 @@
-// The single words of a power call, each with its reader and its writer: document 01, "Single words".
+// The other single words of a power call, each with its reader and its writer: document 01, "Single words".
 mod cookies;
 mod entry_points;
 mod hw_states;
 mod mem_protect_ranges;
-mod mpidrs;
-mod power_states;
 mod psci_features;
-mod reset_types;
 mod suspend_modes;
 mod system_off2_types;
-mod versions;
 
 pub use cookies::Cookie;
 pub use entry_points::EntryPoint;
 pub use hw_states::HwState;
 pub use hw_states::HwStateResult;
 pub use mem_protect_ranges::MemProtectRange;
-pub use mpidrs::Aff3;
-pub use mpidrs::Mpidr;
-pub use mpidrs::MpidrResult;
-pub use power_states::PowerState;
-pub use power_states::PowerStateResult;
 pub use psci_features::PsciFeature;
 pub use psci_features::PsciFeatureResult;
-pub use reset_types::ArchitecturalResetType;
-pub use reset_types::ArchitecturalResetTypeResult;
-pub use reset_types::ResetType;
-pub use reset_types::ResetTypeResult;
 pub use suspend_modes::SuspendMode;
 pub use suspend_modes::SuspendModeResult;
 pub use system_off2_types::SystemOff2Type;
 pub use system_off2_types::SystemOff2TypeResult;
-pub use versions::Version;
-pub use versions::VersionResult;

@@ -1,0 +1,4 @@
+pub mod Inverses
+pub mod PowerStateWords
+pub mod ResetTypeWords
+pub mod VersionWords

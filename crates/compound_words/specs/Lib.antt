@@ -1,0 +1,4 @@
+pub mod Inverses
+pub mod PowerStates
+pub mod ResetTypes
+pub mod Versions
