@@ -1,7 +1,7 @@
 -- The sixteen words of a record's 128 bytes.
 use mathlib.Core.List.{List, [], _∷_}
 use Prim.Native.Nat.{ℕ}
-use Rattle.call_log.specs.Registers.{wordAt}
+use Rattle.byte_words.specs.ByteWords.{wordAt}
 
 abbrev pub wordsOf : List ℕ → List ℕ
 wordsOf s =

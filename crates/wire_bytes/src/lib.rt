@@ -2,7 +2,7 @@
 ghost use mathlib.Core.Path.{_≡_};
 ghost use mathlib.Core.List.{_∷_, []};
 ghost use Prim.Native.Nat.{_≤_};
-ghost use Rattle.call_log.specs.Registers.{bigEndian, wordAt};
+ghost use Rattle.byte_words.specs.ByteWords.{bigEndian, wordAt};
 ghost use Rattle.wire_bytes.specs.Words.{wordsOf};
 
 fn wide(byte: u8) -> u64
