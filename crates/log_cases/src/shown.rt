@@ -1,8 +1,8 @@
 // Prints what the log and its reader answer, a line for each answer.
-use call_log::Counted;
 use call_log::LogError;
 use call_log::OpenResult;
 use call_log::ReadResult;
+use log_count::Counted;
 
 fn number(n: u64) {
     io::print_decimal(1, n);
@@ -93,7 +93,7 @@ pub(crate) fn show_open(log: &[u8]) {
 }
 
 pub(crate) fn show_count(log: &[u8]) {
-    let Counted { records, refusal } = call_log::count(log);
+    let Counted { records, refusal } = log_count::count(log);
     show_size(log);
     io::write_all(1, b"count: ");
     number(records as u64);
