@@ -1,7 +1,7 @@
 // Decoding: four registers to a typed call.
 ghost use mathlib.Core.Path.{_≡_};
 ghost use Rattle.function.specs.Functions.{functionAnswer};
-ghost use Rattle.decode.specs.Decode.{decodeOf};
+ghost use Rattle.decoding.specs.Decode.{decodeOf};
 use compound_words::PowerState;
 use compound_words::ResetType;
 use function::Function;
@@ -37,8 +37,8 @@ pub fn decode(regs: [u64; 4]) -> FunctionResult
         0x8400_0002 => return FunctionResult::Ok(Function::CpuOff),
         0x8400_0003 => return core_calls::cpu_on(Mpidr::try_from_u32(a), calls::entry32(b, c)),
         0xc400_0003 => return core_calls::cpu_on(Mpidr::try_from_u64(r1), calls::entry64(r2, r3)),
-        0x8400_0004 => return core_calls::affinity_info(2, b, Mpidr::try_from_u32(a)),
-        0xc400_0004 => return core_calls::affinity_info(3, b, Mpidr::try_from_u64(r1)),
+        0x8400_0004 => return ordered_calls::affinity_info(2, b, Mpidr::try_from_u32(a)),
+        0xc400_0004 => return ordered_calls::affinity_info(3, b, Mpidr::try_from_u64(r1)),
         0x8400_0005 => return core_calls::migrate(Mpidr::try_from_u32(a)),
         0xc400_0005 => return core_calls::migrate(Mpidr::try_from_u64(r1)),
         0x8400_0006 => return FunctionResult::Ok(Function::MigrateInfoType),
@@ -63,19 +63,19 @@ pub fn decode(regs: [u64; 4]) -> FunctionResult
             entry: calls::entry64(r1, r2),
         }),
         0x8400_000f => return calls::set_suspend_mode(SuspendMode::try_from_u32(a)),
-        0x8400_0010 => return core_calls::stat_residency(
+        0x8400_0010 => return ordered_calls::stat_residency(
             Mpidr::try_from_u32(a),
             PowerState::try_from_u32(b),
         ),
-        0xc400_0010 => return core_calls::stat_residency(
+        0xc400_0010 => return ordered_calls::stat_residency(
             Mpidr::try_from_u64(r1),
             PowerState::try_from_u32(b),
         ),
-        0x8400_0011 => return core_calls::stat_count(
+        0x8400_0011 => return ordered_calls::stat_count(
             Mpidr::try_from_u32(a),
             PowerState::try_from_u32(b),
         ),
-        0xc400_0011 => return core_calls::stat_count(
+        0xc400_0011 => return ordered_calls::stat_count(
             Mpidr::try_from_u64(r1),
             PowerState::try_from_u32(b),
         ),

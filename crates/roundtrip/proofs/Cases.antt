@@ -8,7 +8,7 @@ use Rattle.compound_words.specs.PowerStates.{readPowerState}
 use Rattle.compound_words.specs.ResetTypes.{readArchitecturalResetType, readResetType}
 use Rattle.compound_words.specs.Versions.{readVersion}
 use Rattle.function.specs.Functions.{functionIdOf}
-use Rattle.decode.specs.Decode.{callIn, decodeOf}
+use Rattle.decoding.specs.Decode.{callIn, decodeOf}
 use Rattle.arguments.specs.Arguments.{argumentsOf}
 use Rattle.encode.specs.Encode.{wordsOf}
 use Rattle.roundtrip.specs.Cases.{Cases}

@@ -13,7 +13,7 @@ use Rattle.function_ids.specs.FunctionIds.{functionNumber, readFunctionId}
 use Rattle.function_ids.specs.declared.FunctionId.{FunctionId}
 use Rattle.function_ids.proofs.Table.{function-number}
 use Rattle.function.specs.declared.Function.{Function}
-use Rattle.decode.specs.Decode.{callOf, callIn, decodeOf}
+use Rattle.decoding.specs.Decode.{callOf, callIn, decodeOf}
 use Rattle.encode.specs.Encode.{wordsOf, encodeOf}
 use Rattle.roundtrip.specs.Codec.{Registers}
 use Rattle.roundtrip.specs.Psci.{psci, Demand3Of01}

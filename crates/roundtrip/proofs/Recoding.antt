@@ -9,7 +9,7 @@ use borrow.Author.Tests.{eqb-true}
 use Rattle.refusals.specs.Answers.{Answer, accepted, refused}
 use Rattle.refusals.proofs.Answering.{handed-on, not-accepted}
 use Rattle.function.specs.declared.Function.{Function}
-use Rattle.decode.specs.Decode.{decodeOf}
+use Rattle.decoding.specs.Decode.{decodeOf}
 use Rattle.encode.specs.Encode.{wordsOf, encodeOf, left, encodeAnswer}
 use Rattle.encode.specs.declared.EncodeResult.{EncodeResult}
 use Rattle.encode.specs.declared.EncodeResult.the-variants.{Ok}

@@ -22,8 +22,8 @@ use Rattle.words.proofs.Inverses.{word-laws}
 use Rattle.function.specs.Functions.{mpidrForm, functionIdOf}
 use Rattle.function.specs.declared.Function.{Function}
 use Rattle.function.specs.declared.Function.the-variants.{AffinityInfo}
-use Rattle.core_calls.specs.Calls.{affinityInfo, ofCoreState}
-use Rattle.decode.specs.Decode.{callOf}
+use Rattle.ordered_calls.specs.Calls.{affinityInfo, ofCoreState}
+use Rattle.decoding.specs.Decode.{callOf}
 use Rattle.arguments.specs.Arguments.{argumentsOf}
 use Rattle.encode.specs.Encode.{wordsOf}
 

@@ -19,7 +19,7 @@ use Rattle.compound_words.specs.declared.reset_types.ResetType.the-variants.{Ar
 use Rattle.words.specs.declared.entry_points.EntryPoint.the-variants.{Entry64}
 use Rattle.function.specs.declared.Function.{Function}
 use Rattle.function.specs.declared.Function.the-variants.{Version, CpuOff, CpuOn, AffinityInfo, MemProtect}
-use Rattle.decode.specs.Decode.{decodeOf}
+use Rattle.decoding.specs.Decode.{decodeOf}
 use Rattle.encode.specs.Encode.{wordsOf}
 
 -- a set is decoded as f

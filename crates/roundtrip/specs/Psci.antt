@@ -1,7 +1,7 @@
 -- Document 01's codec, and demand 3 of it.
 use Rattle.function_ids.specs.CallTable.{lookAt}
 use Rattle.function.specs.declared.Function.{Function}
-use Rattle.decode.specs.Decode.{decodeOf}
+use Rattle.decoding.specs.Decode.{decodeOf}
 use Rattle.encode.specs.Encode.{encodeOf}
 use Rattle.roundtrip.specs.Codec.{Codec, Demand3}
 

@@ -2,7 +2,7 @@
 use mathlib.Core.List.{List}
 use Prim.Native.Nat.{ℕ}
 use Rattle.refusals.specs.Answers.{Answer, andThen}
-use Rattle.decode.specs.Decode.{decodeOf}
+use Rattle.decoding.specs.Decode.{decodeOf}
 use Rattle.encode.specs.Encode.{encodeOf}
 
 -- decode's refusals first, then encode's

@@ -1,6 +1,6 @@
 // Demand 3: what is decoded encodes, decodes back and is zero elsewhere. The statement is specs/Codec.antt's; `recode` is the program's part in it.
 ghost use mathlib.Core.Path.{_≡_};
-ghost use Rattle.decode.specs.Decode.{decodeOf};
+ghost use Rattle.decoding.specs.Decode.{decodeOf};
 ghost use Rattle.encode.specs.Encode.{encodeAnswer, left};
 ghost use Rattle.encode.specs.declared.EncodeResult.the-variants.{Ok as Written};
 ghost use Rattle.roundtrip.specs.Recode.{recodeOf};

@@ -3,7 +3,7 @@ ghost use mathlib.Core.Path.{_≡_};
 ghost use lib.IntN.{pos};
 ghost use Rattle.refusals.specs.Answers.{through};
 ghost use Rattle.refusals.specs.Errors.{refusalNumber, refusalValue};
-ghost use Rattle.decode.specs.Decode.{decodeOf};
+ghost use Rattle.decoding.specs.Decode.{decodeOf};
 ghost use Rattle.encode.specs.Encode.{left};
 ghost use Rattle.roundtrip.specs.Recode.{recodeOf};
 ghost use Rattle.wire_call_words.specs.CallWords.{callWords};

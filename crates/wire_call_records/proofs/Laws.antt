@@ -5,7 +5,7 @@ use Prim.Native.Nat.{ℕ}
 use lib.IntN.{ℤ}
 use Rattle.refusals.specs.Answers.{Answer, accepted, refused, through, andThen}
 use Rattle.function.specs.declared.Function.{Function}
-use Rattle.decode.specs.Decode.{decodeOf}
+use Rattle.decoding.specs.Decode.{decodeOf}
 use Rattle.encode.specs.Encode.{encodeOf, encodeAnswer}
 use Rattle.encode.specs.declared.EncodeResult.{EncodeResult}
 use Rattle.wire_call_words.specs.CallWords.{callWords}

@@ -3,7 +3,7 @@
 use mathlib.Core.Path.{sym, ap, _∙_}
 use borrow.Author.Needs.{needs}
 use Rattle.function.specs.Functions.{functionAnswer}
-use Rattle.decode.specs.Decode.{decodeOf}
+use Rattle.decoding.specs.Decode.{decodeOf}
 use Rattle.wire_call_records.proofs.Laws.{decoded, not-decoded}
 use Rattle.wire_call_records.proofs.decode_record.Statement.{statement}
 use Rattle.wire_call_records.proofs.decode_record.Tie as tie

@@ -14,7 +14,7 @@ use Rattle.function_ids.specs.FunctionIds.{functionNumber, functions, readFunct
 use Rattle.function_ids.proofs.Table.{function-back}
 use Rattle.function_ids.specs.declared.FunctionId.{FunctionId}
 use Rattle.function.specs.declared.Function.{Function}
-use Rattle.decode.specs.Decode.{callOf, callIn, decodeOf}
+use Rattle.decoding.specs.Decode.{callOf, callIn, decodeOf}
 
 -- a test for zero that is kept as 0 or 1 is still that test
 pub zero-kept : (t : Bool) → eqb (cond t 0 1) 0 ≡ t

@@ -1,8 +1,8 @@
--- `core_calls::stat_count` meets its contract.
+-- `ordered_calls::stat_count` meets its contract.
 -- Assumes nothing.
 use borrow.Author.Needs.{needs}
-use Rattle.core_calls.proofs.stat_count.Statement.{statement}
-use Rattle.core_calls.proofs.stat_count.Tie as tie
+use Rattle.ordered_calls.proofs.stat_count.Statement.{statement}
+use Rattle.ordered_calls.proofs.stat_count.Tie as tie
 
 pub stat-count-spec : {M : Type 1} → statement M
 stat-count-spec =

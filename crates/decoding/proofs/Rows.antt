@@ -21,9 +21,9 @@ use Rattle.words.specs.declared.cookies.Cookie.the-variants.{Cookie32, Cookie64
 use Rattle.words.specs.declared.mem_protect_ranges.MemProtectRange.the-variants.{Range32, Range64}
 use Rattle.function.specs.declared.Function.{Function}
 use Rattle.function.specs.declared.Function.the-variants.{Version, CpuSuspend, CpuOff, CpuOn, AffinityInfo, Migrate, MigrateInfoType, MigrateInfoUpCpu, SystemOff, SystemOff2, SystemReset, SystemReset2, MemProtect, MemProtectCheckRange, Features, CpuFreeze, CpuDefaultSuspend, NodeHwState, SystemSuspend, SetSuspendMode, StatResidency, StatCount}
-use Rattle.core_calls.specs.Calls.{affinityInfo, ofCoreState}
-use Rattle.decode.specs.Decode.{decodeOf}
-use Rattle.decode.proofs.Laws.{zero-kept, knownOf, known-is}
+use Rattle.ordered_calls.specs.Calls.{affinityInfo, ofCoreState}
+use Rattle.decoding.specs.Decode.{decodeOf}
+use Rattle.decoding.proofs.Laws.{zero-kept, knownOf, known-is}
 
 -- the low 32 bits
 abbrev low : ℕ → ℕ

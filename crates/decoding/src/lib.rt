@@ -1,0 +1,1 @@
+// What four registers decode to: definition and laws, with no code. The functions that decode stand above it.
