@@ -23,6 +23,23 @@ use words::PsciFeature;
 use words::SuspendMode;
 use words::SystemOff2Type;
 
+// A record for C and Rust, as for pipe and file.
+#[repr(C)]
+pub struct Record {
+    pub words: [u64; 16],
+}
+
+// The answer to a record, for C and Rust.
+#[no_mangle]
+pub extern "C" fn psci_answer(question: Record) -> Record
+    ensures { λ r. ⌜ r .words ≡ answerOf (question .words) (getD (question .words) 0 0) ⌝ }
+{
+    let words = question.words;
+    Record {
+        words: answer(words),
+    }
+}
+
 // The answer to a record.
 pub fn answer(w: [u64; 16]) -> [u64; 16]
     ensures { λ r. ⌜ r ≡ answerOf w (getD w 0 0) ⌝ }

@@ -1,4 +1,4 @@
-//! The exported functions of the crates `wire_answer`, `wire` and `wire_line`. Nothing checks these declarations against the Rattle source
+//! The exported functions of the crates `wire_operations`, `wire` and `wire_line`. Nothing checks these declarations against the Rattle source
 //! but the comparison itself.
 use crate::Record;
 use crate::line::Written;
