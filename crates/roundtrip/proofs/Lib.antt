@@ -2,5 +2,4 @@ pub mod Bits
 pub mod Cases
 pub mod Demand3
 pub mod Psci
-pub mod Recoding
 pub mod Rows

@@ -1,4 +1,3 @@
 pub mod Cases
 pub mod Codec
 pub mod Psci
-pub mod Recode

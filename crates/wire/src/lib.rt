@@ -5,7 +5,7 @@ ghost use Rattle.refusals.specs.Answers.{through};
 ghost use Rattle.refusals.specs.Errors.{refusalNumber, refusalValue};
 ghost use Rattle.decoding.specs.Decode.{decodeOf};
 ghost use Rattle.encode.specs.Encode.{left};
-ghost use Rattle.roundtrip.specs.Recode.{recodeOf};
+ghost use Rattle.recode.specs.Recode.{recodeOf};
 ghost use Rattle.wire_call_words.specs.CallWords.{callWords};
 ghost use Rattle.wire.specs.Exports.{refusalIs, refusalIn, encodeWords};
 use encode::EncodeResult;
@@ -83,7 +83,7 @@ pub extern "C" fn psci_recode(regs: &[u64; 4], out: &mut [u64; 4]) -> Refusal
     ensures { λ r. ⌜ (r ≡ refusalIn (recodeOf (now (regs .entry)) (now (out .entry)))) × (now (out .exit) ≡ left (recodeOf (now (regs .entry)) (now (out .entry))) (now (out .entry))) ⌝ }
 {
     let r = *regs;
-    match roundtrip::recode(r, out) {
+    match recode::recode(r, out) {
         EncodeResult::Ok => accepted_words(),
         EncodeResult::Err(error) => refusal_of(error),
     }

@@ -13,10 +13,10 @@ use Rattle.decoding.specs.Decode.{decodeOf}
 use Rattle.encode.specs.Encode.{wordsOf, encodeOf, left, encodeAnswer}
 use Rattle.encode.specs.declared.EncodeResult.{EncodeResult}
 use Rattle.encode.specs.declared.EncodeResult.the-variants.{Ok}
 use Rattle.roundtrip.specs.Codec.{Registers, wordsIn}
 use Rattle.roundtrip.specs.Psci.{psci}
-use Rattle.roundtrip.specs.Recode.{recodeOf}
+use Rattle.recode.specs.Recode.{recodeOf}
 use Rattle.roundtrip.proofs.Psci.{demand3-of-01}
 
 -- what encoding accepts, it accepts for a run of four
 four : (f : Function) (run words : List ℕ) → encodeOf f run ≡ accepted words → length run ≡ 4

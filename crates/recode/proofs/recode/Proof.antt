@@ -1,4 +1,4 @@
--- `roundtrip::recode` meets its contract, the second part by demand 3.
+-- `recode::recode` meets its contract, the second part by demand 3.
 -- Assumes nothing.
 use mathlib.Core.Path.{_≡_, sym, ap, _∙_}
 use Prim.Native.Nat.{ℕ}
@@ -8,9 +8,9 @@ use mir.Syntax.{w64}
 use mir.Val.{Fits}
 use borrow.Author.Needs.{needs}
 use Rattle.function.specs.Functions.{functionAnswer}
-use Rattle.roundtrip.proofs.Recoding.{encoded, read-again, not-decoded}
-use Rattle.roundtrip.proofs.recode.Statement.{statement}
-use Rattle.roundtrip.proofs.recode.Tie as tie
+use Rattle.recode.proofs.Recoding.{encoded, read-again, not-decoded}
+use Rattle.recode.proofs.recode.Statement.{statement}
+use Rattle.recode.proofs.recode.Tie as tie
 
 returns : tie.Need-returns
 returns c =
