@@ -13,7 +13,7 @@ use mpidrs::MpidrResult;
 use refusals::Error;
 
 // The level is checked before the MPIDR.
-pub fn affinity_info(most: u32, lowest_affinity_level: u32, mpidr: MpidrResult) -> FunctionResult
+fn affinity_info(most: u32, lowest_affinity_level: u32, mpidr: MpidrResult) -> FunctionResult
     ensures { λ r. ⌜ functionAnswer r ≡ affinityInfo most «lowest_affinity_level» (mpidrAnswer mpidr) ⌝ }
 {
     if lowest_affinity_level > most {
@@ -26,6 +26,20 @@ pub fn affinity_info(most: u32, lowest_affinity_level: u32, mpidr: MpidrResult) 
         }),
         MpidrResult::Err(error) => FunctionResult::Err(error),
     }
+}
+
+// Levels up to 2: affinity 3 is absent in the 32-bit form.
+pub fn affinity_info_32(lowest_affinity_level: u32, mpidr: MpidrResult) -> FunctionResult
+    ensures { λ r. ⌜ functionAnswer r ≡ affinityInfo 2 «lowest_affinity_level» (mpidrAnswer mpidr) ⌝ }
+{
+    affinity_info(2, lowest_affinity_level, mpidr)
+}
+
+// Levels up to 3.
+pub fn affinity_info_64(lowest_affinity_level: u32, mpidr: MpidrResult) -> FunctionResult
+    ensures { λ r. ⌜ functionAnswer r ≡ affinityInfo 3 «lowest_affinity_level» (mpidrAnswer mpidr) ⌝ }
+{
+    affinity_info(3, lowest_affinity_level, mpidr)
 }
 
 pub fn stat_residency(mpidr: MpidrResult, state: PowerStateResult) -> FunctionResult
