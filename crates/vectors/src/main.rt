@@ -1,10 +1,10 @@
 // Runs the cases of standard input through the codec, and prints a line for each with what it saw. A case is 256 bytes: a label of at most
-// 127 bytes, its length in byte 127, and the sixteen big-endian words of a record of the wire (crates/wire_records/specs/Records.antt).
+// 127 bytes, its length in byte 127, and the sixteen big-endian words of a record of the wire (crates/wire_words/specs/Words.antt).
 // tools/expected-vectors writes the cases and the lines from the papers.
 use encode::EncodeResult;
 use wire_call_asked::Asked;
 use wire_call_asked::call_asked;
-use wire_records::nine_in;
+use wire_words::nine_in;
 
 // Operations beside the wire's: a heading, which has a label alone; and a call written to a lent run, whose length is word 15.
 const HEADING: u64 = 1000;

@@ -3,21 +3,12 @@
 use mathlib.Core.Bool.{cond}
 use mathlib.Core.List.{List, [], _∷_}
 use Prim.Native.Nat.{ℕ, _%_, _^_}
-use lib.Bits.{bitOr, bitXor}
 use lib.Dec.{eqb}
-use lib.IntN.{pos}
 use lib.ListN.{getD}
-use Rattle.refusals.specs.Answers.{Answer, refused}
 use Rattle.bits.specs.Signs.{signed}
 use Rattle.refusals.specs.Errors.{refusalNumber}
 use Rattle.refusals.specs.declared.Error.{Error}
 use Rattle.refusals.specs.declared.Error.the-variants as error
-use Rattle.function_ids.specs.FunctionIds.{functions}
-use Rattle.function_ids.specs.declared.FunctionId.{FunctionId}
-use Rattle.function_ids.specs.declared.FunctionId.the-variants.{PsciVersion}
-use Rattle.codes.specs.Codes.{errorCodes}
-use Rattle.codes.specs.declared.ErrorCode.{ErrorCode}
-use Rattle.codes.specs.declared.ErrorCode.the-variants.{NotSupported}
 use Rattle.codes.specs.declared.ReturnCode.{ReturnCode}
 use Rattle.codes.specs.declared.ReturnCode.the-variants as return
 use Rattle.mpidrs.specs.Mpidrs.{mpidrOf}
@@ -30,26 +21,18 @@ use Rattle.compound_words.specs.declared.reset_types.ArchitecturalResetType.the
 use Rattle.compound_words.specs.declared.reset_types.ResetType.{ResetType}
 use Rattle.compound_words.specs.declared.reset_types.ResetType.the-variants.{Architectural, VendorSpecific}
 use Rattle.compound_words.specs.declared.versions.Version.{Version}
-use Rattle.words.specs.HwStates.{hwStates}
 use Rattle.words.specs.declared.cookies.Cookie.{Cookie}
 use Rattle.words.specs.declared.cookies.Cookie.the-variants.{Cookie32, Cookie64}
 use Rattle.words.specs.declared.entry_points.EntryPoint.{EntryPoint}
 use Rattle.words.specs.declared.entry_points.EntryPoint.the-variants.{Entry32, Entry64}
-use Rattle.words.specs.declared.hw_states.HwState.{HwState}
-use Rattle.words.specs.declared.hw_states.HwState.the-variants.{On}
 use Rattle.words.specs.declared.mem_protect_ranges.MemProtectRange.{MemProtectRange}
 use Rattle.words.specs.declared.mem_protect_ranges.MemProtectRange.the-variants.{Range32, Range64}
 use Rattle.words.specs.declared.psci_features.PsciFeature.{PsciFeature}
 use Rattle.words.specs.declared.psci_features.PsciFeature.the-variants.{PsciFunction, SmcccVersion}
 use Rattle.words.specs.declared.suspend_modes.SuspendMode.{SuspendMode}
 use Rattle.words.specs.declared.suspend_modes.SuspendMode.the-variants.{PlatformCoordinated, OsInitiated}
-use Rattle.wire_parts.specs.Parts.{functionPlace, hwStatePlace, codePlace}
-
-abbrev pub low : ℕ → ℕ
-low part = part % 2 ^ 32
-
-abbrev pub byte : ℕ → ℕ
-byte part = part % 2 ^ 8
+use Rattle.wire_places.specs.Places.{pick, functionAt, codeAt}
+use Rattle.wire_words.specs.Words.{low, byte}
 
 -- 0 for the first of two things, any other number for the second
 abbrev pub either : {A : Type 0} → ℕ → A → A → A
@@ -74,27 +57,11 @@ rangeIn form base extent = either form (Range32 (low base) (low extent)) (Range6
 abbrev pub resetTypeIn : ℕ → ℕ → ResetType
 resetTypeIn vendor word = either vendor (Architectural SystemWarmReset) (VendorSpecific (low word))
 
--- of some things that each have a number, the one whose number is the key, or else the one named
-abbrev pub pick : {A : Type 0} → (A → ℕ) → List A → A → ℕ → A
-pick number [] other key = other
-pick number (a ∷ rest) other key = cond (eqb key (number a)) a (pick number rest other key)
-
--- the function at a place; past the last one the first
-abbrev pub functionAt : ℕ → FunctionId
-functionAt place = pick functionPlace functions PsciVersion place
-
 abbrev pub featureIn : ℕ → ℕ → PsciFeature
 featureIn smccc place = either smccc (PsciFunction (functionAt place)) SmcccVersion
 
 abbrev pub modeIn : ℕ → SuspendMode
 modeIn place = either place PlatformCoordinated OsInitiated
-
--- the state, the code at a place; past the last one the first
-abbrev pub hwStateAt : ℕ → HwState
-hwStateAt place = pick hwStatePlace hwStates On place
-
-abbrev pub codeAt : ℕ → ErrorCode
-codeAt place = pick codePlace errorCodes NotSupported place
 
 abbrev pub returnCodeIn : ℕ → ℕ → ReturnCode
 returnCodeIn failure place = either failure return.Success (return.Error (codeAt place))
@@ -127,15 +94,3 @@ errors value =
 -- the refusal of a number; for a number that no refusal has, the one numbered 14
 abbrev pub errorIn : ℕ → ℕ → Error
 errorIn number value = pick refusalNumber (errors value) error.MixedCallForms number
-
--- the bits in which two runs of nine words differ
-unfoldable pub differing : List ℕ → List ℕ → ℕ
-differing c d =
-    bitOr (bitOr (bitOr (bitOr (bitOr (bitOr (bitOr (bitOr
-    (bitXor (getD c 0 0) (getD d 0 0)) (bitXor (getD c 1 0) (getD d 1 0))) (bitXor (getD c 2 0) (getD d 2 0)))
-    (bitXor (getD c 3 0) (getD d 3 0))) (bitXor (getD c 4 0) (getD d 4 0))) (bitXor (getD c 5 0) (getD d 5 0)))
-    (bitXor (getD c 6 0) (getD d 6 0))) (bitXor (getD c 7 0) (getD d 7 0))) (bitXor (getD c 8 0) (getD d 8 0))
-
--- wire refusal 1003: words that are not those of the value
-unfoldable pub ofParts : {A : Type 0} → List ℕ → List ℕ → Answer A → Answer A
-ofParts c own answer = cond (eqb (differing c own) 0) answer (refused 1003 (pos 0))

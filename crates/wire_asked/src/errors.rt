@@ -1,11 +1,11 @@
 // A refusal by its number.
 ghost use mathlib.Core.Path.{_≡_};
 ghost use Rattle.wire_asked.specs.Asked.{errorIn};
-use crate::low8;
-use crate::low16;
-use crate::low32;
 use bits::signs;
 use refusals::Error;
+use wire_words::low8;
+use wire_words::low16;
+use wire_words::low32;
 
 // The refusal of a number, the value cut to its place.
 pub fn error_in(number: u64, value: u64) -> Error

@@ -1,13 +1,11 @@
 // The single value that nine words stand for.
 ghost use mathlib.Core.Path.{_≡_};
 ghost use Prim.Native.Nat.{_%_, _^_};
-ghost use Rattle.wire_asked.specs.Asked.{low, byte, either, mpidrIn, powerStateIn, entryIn, cookieIn, rangeIn, resetTypeIn, featureIn, modeIn, returnCodeIn, versionIn, differing};
+ghost use Rattle.wire_words.specs.Words.{low, byte};
+ghost use Rattle.wire_asked.specs.Asked.{either, mpidrIn, powerStateIn, entryIn, cookieIn, rangeIn, resetTypeIn, featureIn, modeIn, returnCodeIn, versionIn};
 
 pub mod errors;
-pub mod places;
 
-use crate::places::code_at;
-use crate::places::function_at;
 use codes::ReturnCode;
 use compound_words::ArchitecturalResetType;
 use compound_words::PowerState;
@@ -15,29 +13,16 @@ use compound_words::ResetType;
 use compound_words::Version;
 use mpidrs::Aff3;
 use mpidrs::Mpidr;
+use wire_places::code_at;
+use wire_places::function_at;
+use wire_words::low8;
+use wire_words::low16;
+use wire_words::low32;
 use words::Cookie;
 use words::EntryPoint;
 use words::MemProtectRange;
 use words::PsciFeature;
 use words::SuspendMode;
-
-pub fn low32(part: u64) -> u32
-    ensures { λ r. ⌜ r ≡ low part ⌝ }
-{
-    (part % 0x1_0000_0000) as u32
-}
-
-pub fn low16(part: u64) -> u16
-    ensures { λ r. ⌜ r ≡ part % 2 ^ 16 ⌝ }
-{
-    (part % 0x1_0000) as u16
-}
-
-pub fn low8(part: u64) -> u8
-    ensures { λ r. ⌜ r ≡ byte part ⌝ }
-{
-    (part % 0x100) as u8
-}
 
 fn aff3_in(present: u64, part: u64) -> Aff3
     ensures { λ r. ⌜ r ≡ either present Aff3.None (Aff3.Some (byte part)) ⌝ }
@@ -157,19 +142,4 @@ pub fn version_in(major: u64, minor: u64) -> Version
         major: low16(major),
         minor: low16(minor),
     }
-}
-
-// The bits in which two runs of nine words differ.
-pub fn differing_bits(c: [u64; 9], d: [u64; 9]) -> u64
-    ensures { λ r. ⌜ r ≡ differing c d ⌝ }
-{
-    (c[0] ^ d[0])
-        | (c[1] ^ d[1])
-        | (c[2] ^ d[2])
-        | (c[3] ^ d[3])
-        | (c[4] ^ d[4])
-        | (c[5] ^ d[5])
-        | (c[6] ^ d[6])
-        | (c[7] ^ d[7])
-        | (c[8] ^ d[8])
 }

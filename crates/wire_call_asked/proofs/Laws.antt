@@ -9,7 +9,7 @@ use lib.ListN.{getD}
 use Rattle.refusals.specs.Answers.{Answer, accepted, refused, through}
 use Rattle.refusals.proofs.Choosing.{NoneOf, none-chosen}
 use Rattle.function.specs.declared.Function.{Function}
-use Rattle.wire_asked.specs.Asked.{differing, ofParts}
+use Rattle.wire_words.specs.Words.{differing, ofParts}
 use Rattle.wire_call_words.specs.CallWords.{callWords}
 use Rattle.wire_call_asked.specs.CallAsked.{Tagged, calls, callAt, callAsked}
 

@@ -9,7 +9,8 @@ use Rattle.refusals.specs.Answers.{Answer, accepted, refused, choose, through, 
 use Rattle.words.specs.declared.system_off2_types.SystemOff2Type.the-variants.{HibernateOff}
 use Rattle.function.specs.declared.Function.{Function}
 use Rattle.function.specs.declared.Function.the-variants as call
-use Rattle.wire_asked.specs.Asked.{low, mpidrIn, powerStateIn, entryIn, cookieIn, rangeIn, resetTypeIn, featureIn, modeIn, ofParts}
+use Rattle.wire_words.specs.Words.{low, ofParts}
+use Rattle.wire_asked.specs.Asked.{mpidrIn, powerStateIn, entryIn, cookieIn, rangeIn, resetTypeIn, featureIn, modeIn}
 use Rattle.wire_call_words.specs.CallWords.{callWords}
 use Rattle.wire_call_asked.specs.declared.Asked.{Asked}
 use Rattle.wire_call_asked.specs.declared.Asked.the-variants.{Call, UnknownTag, WrongPart}

@@ -6,16 +6,16 @@ ghost use lib.ListN.{getD};
 ghost use Rattle.wire_call_asked.specs.CallAsked.{callAt, callAsked, askedAnswer};
 use function::Function;
 use wire_asked::cookie_in;
-use wire_asked::differing_bits;
 use wire_asked::entry_in;
 use wire_asked::feature_in;
-use wire_asked::low32;
 use wire_asked::mode_in;
 use wire_asked::mpidr_in;
 use wire_asked::power_state_in;
 use wire_asked::range_in;
 use wire_asked::reset_type_in;
 use wire_call_words::call_words;
+use wire_words::differing_bits;
+use wire_words::low32;
 use words::SystemOff2Type;
 
 // The call that words ask for, or what is wrong with them.

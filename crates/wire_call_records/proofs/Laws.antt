@@ -10,7 +10,8 @@ use Rattle.encode.specs.Encode.{encodeOf, encodeAnswer}
 use Rattle.encode.specs.declared.EncodeResult.{EncodeResult}
 use Rattle.wire_call_words.specs.CallWords.{callWords}
 use Rattle.wire_call_asked.specs.CallAsked.{callAsked}
-use Rattle.wire_records.specs.Records.{nineIn, regsIn, gives, writes, turnedBack}
+use Rattle.wire_words.specs.Words.{nineIn, regsIn}
+use Rattle.wire_records.specs.Records.{gives, writes, turnedBack}
 use Rattle.wire_call_records.specs.CallRecords.{decodeRecord}
 
 module _ (w : List ℕ) where

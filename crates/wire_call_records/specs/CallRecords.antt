@@ -8,7 +8,8 @@ use Rattle.decoding.specs.Decode.{decodeOf}
 use Rattle.encode.specs.Encode.{encodeOf}
 use Rattle.wire_call_words.specs.CallWords.{callWords}
 use Rattle.wire_call_asked.specs.CallAsked.{callAsked}
-use Rattle.wire_records.specs.Records.{nineIn, regsIn, gives, writes, first}
+use Rattle.wire_words.specs.Words.{nineIn, regsIn}
+use Rattle.wire_records.specs.Records.{gives, writes, first}
 
 abbrev pub decodeRecord : List ℕ → List ℕ
 decodeRecord w = gives w (through callWords (decodeOf (regsIn w)))

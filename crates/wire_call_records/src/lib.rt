@@ -9,12 +9,12 @@ use wire_call_asked::call_asked;
 use wire_call_words::call_words;
 use wire_parts::parts::wide32;
 use wire_records::given;
-use wire_records::nine_in;
 use wire_records::refused;
-use wire_records::regs_in;
 use wire_records::turned_back;
 use wire_records::written;
 use wire_records::written_word;
+use wire_words::nine_in;
+use wire_words::regs_in;
 
 pub fn decode_record(w: [u64; 16]) -> [u64; 16]
     ensures { λ r. ⌜ r ≡ decodeRecord w ⌝ }

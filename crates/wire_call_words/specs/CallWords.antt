@@ -4,7 +4,8 @@ use Prim.Native.Nat.{ℕ}
 use Rattle.function.specs.declared.Function.{Function}
 use Rattle.function.specs.declared.Function.the-variants as call
 use Rattle.field_words.specs.FieldWords.{flagWord}
-use Rattle.wire_parts.specs.Parts.{nine, mpidrParts, powerStateParts, entryParts, cookieParts, rangeParts, resetTypeParts, featureParts, modePlace}
+use Rattle.wire_places.specs.Places.{modePlace}
+use Rattle.wire_parts.specs.Parts.{nine, mpidrParts, powerStateParts, entryParts, cookieParts, rangeParts, resetTypeParts, featureParts}
 
 -- the tag, which is the place in the enum Function; the parts of its fields in their order
 unfoldable pub callWords : Function → List ℕ

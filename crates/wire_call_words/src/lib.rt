@@ -18,8 +18,8 @@ use wire_parts::parts::state_id;
 use wire_parts::parts::vendor;
 use wire_parts::parts::vendor_type;
 use wire_parts::parts::wide32;
-use wire_parts::places::mode_place;
 use wire_parts::three;
+use wire_places::mode_place;
 
 // The words of a call.
 pub fn call_words(function: Function) -> [u64; 9]

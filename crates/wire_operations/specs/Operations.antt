@@ -17,9 +17,11 @@ use Rattle.words.specs.HwStates.{readHwState, hwStateNumber}
 use Rattle.words.specs.PsciFeatures.{readFeature, featureNumber}
 use Rattle.words.specs.SuspendModes.{readSuspendMode, suspendModeNumber}
 use Rattle.words.specs.SystemOff2Types.{readSystemOff2Type}
-use Rattle.wire_parts.specs.Parts.{mpidrWords, powerStateWords, entryWords, resetTypeWords, functionPlace, featureWords, modePlace, hwStatePlace, codePlace, versionWords, returnCodeWords, placeWords, errorWords}
-use Rattle.wire_asked.specs.Asked.{byte, mpidrIn, powerStateIn, entryIn, resetTypeIn, functionAt, featureIn, modeIn, hwStateAt, codeAt, returnCodeIn, versionIn, errorIn}
-use Rattle.wire_records.specs.Records.{nineIn, turnedBack, gives, writesWord, wordIn, part}
+use Rattle.wire_places.specs.Places.{functionPlace, modePlace, hwStatePlace, codePlace, functionAt, hwStateAt, codeAt}
+use Rattle.wire_parts.specs.Parts.{mpidrWords, powerStateWords, entryWords, resetTypeWords, featureWords, versionWords, returnCodeWords, placeWords, errorWords}
+use Rattle.wire_words.specs.Words.{byte, nineIn}
+use Rattle.wire_asked.specs.Asked.{mpidrIn, powerStateIn, entryIn, resetTypeIn, featureIn, modeIn, returnCodeIn, versionIn, errorIn}
+use Rattle.wire_records.specs.Records.{turnedBack, gives, writesWord, wordIn, part}
 use Rattle.wire_call_records.specs.CallRecords.{decodeRecord, encodeRecord, functionIdRecord}
 
 -- an operation by its number

@@ -1,5 +1,4 @@
 -- A value on the wire is nine words: a tag, its parts, then zeros. The tag of a call is its place in the enum Function, that of any other value is 0.
--- A case of an enum without data is its place in the enum.
 use mathlib.Core.List.{List, [], _∷_}
 use Prim.Native.Nat.{ℕ}
 use lib.ListN.{getD}
@@ -7,10 +6,6 @@ use Rattle.refusals.specs.Errors.{refusalNumber, refusalValue}
 use Rattle.refusals.specs.declared.Error.{Error}
 use Rattle.bits.specs.Signs.{wordOf}
 use Rattle.function_ids.specs.CallTable.{Form, narrow, wide}
-use Rattle.function_ids.specs.declared.FunctionId.{FunctionId}
-use Rattle.function_ids.specs.declared.FunctionId.the-variants as id
-use Rattle.codes.specs.declared.ErrorCode.{ErrorCode}
-use Rattle.codes.specs.declared.ErrorCode.the-variants as code
 use Rattle.codes.specs.declared.ReturnCode.{ReturnCode}
 use Rattle.codes.specs.declared.ReturnCode.the-variants as return
 use Rattle.mpidrs.specs.Mpidrs.{aff3Number}
@@ -23,14 +18,11 @@ use Rattle.compound_words.specs.declared.versions.Version.{Version}
 use Rattle.words.specs.EntryPoints.{entryAddress, entryContext}
 use Rattle.words.specs.declared.cookies.Cookie.{Cookie}
 use Rattle.words.specs.declared.entry_points.EntryPoint.{EntryPoint}
-use Rattle.words.specs.declared.hw_states.HwState.{HwState}
-use Rattle.words.specs.declared.hw_states.HwState.the-variants as state
 use Rattle.words.specs.declared.mem_protect_ranges.MemProtectRange.{MemProtectRange}
 use Rattle.words.specs.declared.psci_features.PsciFeature.{PsciFeature}
 use Rattle.words.specs.declared.psci_features.PsciFeature.the-variants.{PsciFunction, SmcccVersion}
-use Rattle.words.specs.declared.suspend_modes.SuspendMode.{SuspendMode}
-use Rattle.words.specs.declared.suspend_modes.SuspendMode.the-variants.{PlatformCoordinated, OsInitiated}
 use Rattle.function.specs.Functions.{entryForm, cookieForm, rangeForm, mpidrForm}
+use Rattle.wire_places.specs.Places.{functionPlace, codePlace}
 use Rattle.field_words.specs.FieldWords.{cookieWord, baseWord, lengthWord}
 
 -- the first nine of some words, and zeros for those that are lacking
@@ -82,43 +74,6 @@ vendorType (VendorSpecific t) = t
 abbrev pub resetTypeParts : ResetType → List ℕ
 resetTypeParts t = vendorPart t ∷ vendorType t ∷ []
 
-abbrev pub functionPlace : FunctionId → ℕ
-functionPlace id.PsciVersion = 0
-functionPlace id.CpuSuspend32 = 1
-functionPlace id.CpuSuspend64 = 2
-functionPlace id.CpuOff = 3
-functionPlace id.CpuOn32 = 4
-functionPlace id.CpuOn64 = 5
-functionPlace id.AffinityInfo32 = 6
-functionPlace id.AffinityInfo64 = 7
-functionPlace id.Migrate32 = 8
-functionPlace id.Migrate64 = 9
-functionPlace id.MigrateInfoType = 10
-functionPlace id.MigrateInfoUpCpu32 = 11
-functionPlace id.MigrateInfoUpCpu64 = 12
-functionPlace id.SystemOff = 13
-functionPlace id.SystemReset = 14
-functionPlace id.PsciFeatures = 15
-functionPlace id.CpuFreeze = 16
-functionPlace id.CpuDefaultSuspend32 = 17
-functionPlace id.CpuDefaultSuspend64 = 18
-functionPlace id.NodeHwState32 = 19
-functionPlace id.NodeHwState64 = 20
-functionPlace id.SystemSuspend32 = 21
-functionPlace id.SystemSuspend64 = 22
-functionPlace id.PsciSetSuspendMode = 23
-functionPlace id.PsciStatResidency32 = 24
-functionPlace id.PsciStatResidency64 = 25
-functionPlace id.PsciStatCount32 = 26
-functionPlace id.PsciStatCount64 = 27
-functionPlace id.SystemReset232 = 28
-functionPlace id.SystemReset264 = 29
-functionPlace id.MemProtect = 30
-functionPlace id.MemProtectCheckRange32 = 31
-functionPlace id.MemProtectCheckRange64 = 32
-functionPlace id.SystemOff232 = 33
-functionPlace id.SystemOff264 = 34
-
 -- 1 for the SMCCC version; the function's place
 abbrev pub smcccPart : PsciFeature → ℕ
 smcccPart (PsciFunction f) = 0
@@ -130,26 +85,6 @@ featurePlace SmcccVersion = 0
 
 abbrev pub featureParts : PsciFeature → List ℕ
 featureParts f = smcccPart f ∷ featurePlace f ∷ []
-
-abbrev pub modePlace : SuspendMode → ℕ
-modePlace PlatformCoordinated = 0
-modePlace OsInitiated = 1
-
-abbrev pub hwStatePlace : HwState → ℕ
-hwStatePlace state.On = 0
-hwStatePlace state.Off = 1
-hwStatePlace state.Standby = 2
-
-abbrev pub codePlace : ErrorCode → ℕ
-codePlace code.NotSupported = 0
-codePlace code.InvalidParameters = 1
-codePlace code.Denied = 2
-codePlace code.AlreadyOn = 3
-codePlace code.OnPending = 4
-codePlace code.InternalFailure = 5
-codePlace code.NotPresent = 6
-codePlace code.Disabled = 7
-codePlace code.InvalidAddress = 8
 
 -- 1 for an error; its place
 abbrev pub failurePart : ReturnCode → ℕ

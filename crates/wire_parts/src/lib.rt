@@ -4,7 +4,6 @@ ghost use mathlib.Core.List.{_∷_, [], _++_};
 ghost use Rattle.wire_parts.specs.Parts.{nine, mpidrParts, entryParts, mpidrWords, powerStateWords, entryWords, resetTypeWords, featureWords, versionWords, returnCodeWords, placeWords, errorWords};
 
 pub mod parts;
-pub mod places;
 
 use crate::parts::aff3;
 use crate::parts::down;

@@ -6,8 +6,8 @@ use Prim.Native.Nat.{ℕ}
 use lib.Dec.{eqb}
 use lib.IntN.{pos}
 use Rattle.refusals.specs.Answers.{Answer, refused, through}
-use Rattle.wire_asked.specs.Asked.{differing, ofParts}
-use Rattle.wire_records.specs.Records.{nineIn, first, writes, writesWord, turnedBack}
+use Rattle.wire_words.specs.Words.{differing, ofParts, nineIn}
+use Rattle.wire_records.specs.Records.{first, writes, writesWord, turnedBack}
 
 -- a writer asked with the value's own words, and with others
 module _ (w own : List ℕ) (answer : Answer ℕ) where

@@ -1,4 +1,3 @@
--- A record is sixteen words: the operation; a call or a single value as nine words; four registers; the refusal's number and what it carries.
 -- The answer to a record is that record with the operation's answer in it. A word that the operation does not write is as it was asked.
 use mathlib.Core.List.{List, [], _∷_}
 use Prim.Native.Nat.{ℕ}
@@ -6,25 +5,7 @@ use lib.IntN.{ℤ}
 use lib.ListN.{getD}
 use Rattle.bits.specs.Signs.{wordOf}
 use Rattle.refusals.specs.Answers.{Answer, accepted, refused, through}
-use Rattle.wire_asked.specs.Asked.{low, ofParts}
-
--- ---- the places of a record
-
-abbrev pub operation : List ℕ → ℕ
-operation w = getD w 0 0
-
-abbrev pub nineIn : List ℕ → List ℕ
-nineIn w = getD w 1 0 ∷ getD w 2 0 ∷ getD w 3 0 ∷ getD w 4 0 ∷ getD w 5 0 ∷ getD w 6 0 ∷ getD w 7 0 ∷ getD w 8 0 ∷ getD w 9 0 ∷ []
-
-abbrev pub regsIn : List ℕ → List ℕ
-regsIn w = getD w 10 0 ∷ getD w 11 0 ∷ getD w 12 0 ∷ getD w 13 0 ∷ []
-
-abbrev pub recordOf : ℕ → List ℕ → List ℕ → ℕ → ℕ → List ℕ
-recordOf op c r number carried =
-    op
-    ∷ getD c 0 0 ∷ getD c 1 0 ∷ getD c 2 0 ∷ getD c 3 0 ∷ getD c 4 0 ∷ getD c 5 0 ∷ getD c 6 0 ∷ getD c 7 0 ∷ getD c 8 0
-    ∷ getD r 0 0 ∷ getD r 1 0 ∷ getD r 2 0 ∷ getD r 3 0
-    ∷ number ∷ carried ∷ []
+use Rattle.wire_words.specs.Words.{low, operation, nineIn, regsIn, recordOf, ofParts}
 
 -- ---- an answer in its record: a refusal writes its number and what it carries in two's complement of 64 bits, and nothing else
 

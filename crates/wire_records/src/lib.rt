@@ -4,23 +4,15 @@ ghost use lib.IntN.{pos};
 ghost use lib.ListN.{getD};
 ghost use Rattle.refusals.specs.Answers.{accepted};
 ghost use Rattle.refusals.specs.Errors.{refusalNumber, refusalValue, wordAnswer};
-ghost use Rattle.wire_records.specs.Records.{nineIn, regsIn, recordOf, turnedBack, gives, writes, first, writesWord, wordIn};
+ghost use Rattle.wire_words.specs.Words.{nineIn, regsIn, recordOf};
+ghost use Rattle.wire_records.specs.Records.{turnedBack, gives, writes, first, writesWord, wordIn};
 use refusals::Error;
 use refusals::WordResult;
-use wire_asked::differing_bits;
-use wire_asked::low32;
-
-pub fn nine_in(w: [u64; 16]) -> [u64; 9]
-    ensures { λ r. ⌜ r ≡ nineIn w ⌝ }
-{
-    [w[1], w[2], w[3], w[4], w[5], w[6], w[7], w[8], w[9]]
-}
-
-pub fn regs_in(w: [u64; 16]) -> [u64; 4]
-    ensures { λ r. ⌜ r ≡ regsIn w ⌝ }
-{
-    [w[10], w[11], w[12], w[13]]
-}
+use wire_words::differing_bits;
+use wire_words::low32;
+use wire_words::nine_in;
+use wire_words::record_of;
+use wire_words::regs_in;
 
 // The word of 32 bits that a reader reads.
 pub fn word(w: [u64; 16]) -> u32
@@ -34,29 +26,6 @@ pub fn long_word(w: [u64; 16]) -> u64
     ensures { λ r. ⌜ r ≡ getD w 10 0 ⌝ }
 {
     w[10]
-}
-
-pub fn record_of(op: u64, c: [u64; 9], r: [u64; 4], number: u64, carried: u64) -> [u64; 16]
-    ensures { λ made. ⌜ made ≡ recordOf op c r number carried ⌝ }
-{
-    [
-        op,
-        c[0],
-        c[1],
-        c[2],
-        c[3],
-        c[4],
-        c[5],
-        c[6],
-        c[7],
-        c[8],
-        r[0],
-        r[1],
-        r[2],
-        r[3],
-        number,
-        carried,
-    ]
 }
 
 // Turned back, with nothing written but the number and what is carried.

@@ -3,7 +3,7 @@
 use mathlib.Core.Path.{sym, ap, _∙_}
 use borrow.Author.Needs.{needs}
 use borrow.Author.Tests.{eq-eqb, ne-eqb}
-use Rattle.wire_asked.specs.Asked.{differing}
+use Rattle.wire_words.specs.Words.{differing}
 use Rattle.wire_call_asked.specs.CallAsked.{askedAnswer}
 use Rattle.wire_call_asked.proofs.Laws.{asked-call, asked-wrong, asked-refused}
 use Rattle.wire_call_asked.proofs.call_asked.Statement.{statement}

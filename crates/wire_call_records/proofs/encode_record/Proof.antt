@@ -4,7 +4,7 @@ use mathlib.Core.Path.{sym, ap, _∙_}
 use borrow.Author.Needs.{needs}
 use Rattle.encode.specs.Encode.{encodeOf}
 use Rattle.wire_call_asked.specs.CallAsked.{callAsked, askedAnswer}
-use Rattle.wire_records.specs.Records.{regsIn}
+use Rattle.wire_words.specs.Words.{regsIn}
 use Rattle.wire_call_records.proofs.Laws.{wrote, asked-then, not-asked}
 use Rattle.wire_call_records.proofs.encode_record.Statement.{statement}
 use Rattle.wire_call_records.proofs.encode_record.Tie as tie

@@ -5,7 +5,7 @@ use borrow.Author.Needs.{needs}
 use borrow.Author.Tests.{eq-eqb, ne-eqb}
 use Rattle.refusals.specs.Answers.{through}
 use Rattle.refusals.specs.Errors.{wordAnswer}
-use Rattle.wire_asked.specs.Asked.{differing}
+use Rattle.wire_words.specs.Words.{differing}
 use Rattle.wire_records.specs.Records.{first, writes}
 use Rattle.wire_records.proofs.Laws.{own-words, other-words}
 use Rattle.wire_records.proofs.word_answer.Statement.{statement}

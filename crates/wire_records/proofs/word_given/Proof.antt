@@ -4,7 +4,7 @@ use mathlib.Core.Path.{sym, ap, _∙_}
 use borrow.Author.Needs.{needs}
 use borrow.Author.Tests.{eq-eqb, ne-eqb}
 use Rattle.refusals.specs.Answers.{accepted}
-use Rattle.wire_asked.specs.Asked.{differing}
+use Rattle.wire_words.specs.Words.{differing}
 use Rattle.wire_records.proofs.Laws.{own-words, other-words}
 use Rattle.wire_records.proofs.word_given.Statement.{statement}
 use Rattle.wire_records.proofs.word_given.Tie as tie

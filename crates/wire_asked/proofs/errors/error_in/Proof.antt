@@ -7,7 +7,7 @@ use Rattle.bits.specs.Signs.{signed}
 use Rattle.refusals.specs.declared.Error.the-variants as error
 use Rattle.refusals.specs.Errors.{refusalNumber}
 use Rattle.wire_asked.specs.Asked.{errors, errorIn}
-use Rattle.wire_asked.proofs.Laws.{none-picked}
+use Rattle.wire_places.proofs.Laws.{none-picked}
 use Rattle.wire_asked.proofs.errors.error_in.Statement.{statement}
 use Rattle.wire_asked.proofs.errors.error_in.Tie as tie
 

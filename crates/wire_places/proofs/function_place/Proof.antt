@@ -1,8 +1,8 @@
--- `wire_parts::places::function_place` meets its contract.
+-- `wire_places::function_place` meets its contract.
 -- Assumes nothing.
 use borrow.Author.Needs.{needs}
-use Rattle.wire_parts.proofs.places.function_place.Statement.{statement}
-use Rattle.wire_parts.proofs.places.function_place.Tie as tie
+use Rattle.wire_places.proofs.function_place.Statement.{statement}
+use Rattle.wire_places.proofs.function_place.Tie as tie
 
 pub function-place-spec : {M : Type 1} → statement M
 function-place-spec =

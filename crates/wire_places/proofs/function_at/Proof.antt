@@ -1,12 +1,11 @@
--- `wire_asked::places::function_at` meets its contract: each arm has the place of what it gives, and the last arm none of them.
+-- `wire_places::function_at` meets its contract: each arm has the place of what it gives, and the last arm none of them.
 -- Assumes nothing.
 use mathlib.Core.Path.{sym, ap}
 use Rattle.function_ids.specs.FunctionIds.{functions}
-use Rattle.wire_parts.specs.Parts.{functionPlace}
-use Rattle.wire_asked.specs.Asked.{functionAt}
-use Rattle.wire_asked.proofs.Laws.{none-picked}
-use Rattle.wire_asked.proofs.places.function_at.Statement.{statement}
-use Rattle.wire_asked.proofs.places.function_at.Tie as tie
+use Rattle.wire_places.specs.Places.{functionAt, functionPlace}
+use Rattle.wire_places.proofs.Laws.{none-picked}
+use Rattle.wire_places.proofs.function_at.Statement.{statement}
+use Rattle.wire_places.proofs.function_at.Tie as tie
 
 pub function-at-spec : {M : Type 1} → statement M
 function-at-spec =

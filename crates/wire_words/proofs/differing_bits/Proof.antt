@@ -1,9 +1,9 @@
--- `wire_asked::differing_bits` meets its contract.
+-- `wire_words::differing_bits` meets its contract.
 -- Assumes nothing.
 use borrow.Author.Needs.{needs}
-use Rattle.wire_asked.specs.Asked.{differing}
-use Rattle.wire_asked.proofs.differing_bits.Statement.{statement}
-use Rattle.wire_asked.proofs.differing_bits.Tie as tie
+use Rattle.wire_words.specs.Words.{differing}
+use Rattle.wire_words.proofs.differing_bits.Statement.{statement}
+use Rattle.wire_words.proofs.differing_bits.Tie as tie
 
 pub differing-bits-spec : {M : Type 1} → statement M
 unfolding differing

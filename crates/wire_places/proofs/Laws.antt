@@ -6,7 +6,7 @@ use Prim.Native.Nat.{ℕ}
 use lib.Dec.{eqb}
 use Rattle.refusals.specs.Answers.{Answer, accepted, choose}
 use Rattle.refusals.proofs.Choosing.{NoneOf, none-chosen}
-use Rattle.wire_asked.specs.Asked.{pick}
+use Rattle.wire_places.specs.Places.{pick}
 
 module _ {A : Type 0} (number : A → ℕ) (other : A) (key : ℕ) where
   either-way : (t : Bool) (a b : A) (answer : Answer A) → accepted b ≡ answer → accepted (cond t a b) ≡ cond t (accepted a) answer

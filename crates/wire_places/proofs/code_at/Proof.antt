@@ -1,12 +1,11 @@
--- `wire_asked::places::code_at` meets its contract: each arm has the place of what it gives, and the last arm none of them.
+-- `wire_places::code_at` meets its contract: each arm has the place of what it gives, and the last arm none of them.
 -- Assumes nothing.
 use mathlib.Core.Path.{sym, ap}
 use Rattle.codes.specs.Codes.{errorCodes}
-use Rattle.wire_parts.specs.Parts.{codePlace}
-use Rattle.wire_asked.specs.Asked.{codeAt}
-use Rattle.wire_asked.proofs.Laws.{none-picked}
-use Rattle.wire_asked.proofs.places.code_at.Statement.{statement}
-use Rattle.wire_asked.proofs.places.code_at.Tie as tie
+use Rattle.wire_places.specs.Places.{codeAt, codePlace}
+use Rattle.wire_places.proofs.Laws.{none-picked}
+use Rattle.wire_places.proofs.code_at.Statement.{statement}
+use Rattle.wire_places.proofs.code_at.Tie as tie
 
 pub code-at-spec : {M : Type 1} → statement M
 code-at-spec =
