@@ -1,5 +1,6 @@
 -- `wire_words::differing_bits` meets its contract.
 -- Assumes nothing.
+use mathlib.Core.Path.{refl}
 use borrow.Author.Needs.{needs}
 use Rattle.wire_words.specs.Words.{differing}
 use Rattle.wire_words.proofs.differing_bits.Statement.{statement}
@@ -28,4 +29,4 @@ differing-bits-spec =
     (λ c. search needs)
     (λ c. search needs)
     (λ c. search needs)
-    (λ c. search needs))
+    (λ c. refl))
