@@ -4,8 +4,8 @@ use Prim.Native.Nat.{ℕ}
 use Rattle.refusals.specs.Answers.{Answer, accepted, through}
 use Rattle.refusals.specs.Errors.{refusal}
 use Rattle.mpidrs.specs.Mpidrs.{writeMpidr64}
-use Rattle.compound_words.specs.PowerStates.{writePowerState}
-use Rattle.compound_words.specs.ResetTypes.{writeResetType}
+use Rattle.power_states.specs.PowerStates.{writePowerState}
+use Rattle.reset_types.specs.ResetTypes.{writeResetType}
 use Rattle.words.specs.EntryPoints.{entryAddress, entryContext}
 use Rattle.words.specs.PsciFeatures.{featureNumber}
 use Rattle.words.specs.SuspendModes.{suspendModeNumber}

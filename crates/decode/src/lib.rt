@@ -2,12 +2,12 @@
 ghost use mathlib.Core.Path.{_≡_};
 ghost use Rattle.function.specs.Functions.{functionAnswer};
 ghost use Rattle.decoding.specs.Decode.{decodeOf};
-use compound_words::PowerState;
-use compound_words::ResetType;
 use function::Function;
 use function::FunctionResult;
 use mpidrs::Mpidr;
+use power_states::PowerState;
 use refusals::Error;
+use reset_types::ResetType;
 use words::Cookie;
 use words::MemProtectRange;
 use words::PsciFeature;

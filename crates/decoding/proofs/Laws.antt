@@ -9,10 +9,10 @@ use lib.IntN.{pos}
 use lib.ListN.{getD}
 use Rattle.refusals.specs.Answers.{Answer, accepted, refused}
 use Rattle.refusals.proofs.Choosing.{NoneOf, none-chosen}
-use Rattle.function_ids.specs.CallTable.{ruleOf, kept, valueIn, numberIn}
 use Rattle.function_ids.specs.FunctionIds.{functionNumber, functions, readFunctionId}
-use Rattle.function_ids.proofs.Table.{function-back}
+use Rattle.function_ids.proofs.Inverse.{function-back}
 use Rattle.function_ids.specs.declared.FunctionId.{FunctionId}
+use Rattle.call_table.specs.CallTable.{ruleOf, kept, valueIn, numberIn}
 use Rattle.function.specs.declared.Function.{Function}
 use Rattle.decoding.specs.Decode.{callOf, callIn, decodeOf}
 

@@ -4,7 +4,7 @@ use Prim.Native.Nat.{ℕ}
 use lib.IntN.{pos}
 use Rattle.refusals.specs.Answers.{Answer, accepted, refused}
 use Rattle.refusals.specs.Errors.{refusal}
-use Rattle.function_ids.specs.CallTable.{Form, narrow, wide}
+use Rattle.function_ids.specs.FunctionIds.{Form, narrow, wide}
 use Rattle.function_ids.specs.declared.FunctionId.{FunctionId}
 use Rattle.function_ids.specs.declared.FunctionId.the-variants as id
 use Rattle.mpidrs.specs.declared.Aff3.{Aff3}

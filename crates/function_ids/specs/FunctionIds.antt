@@ -1,14 +1,24 @@
 -- Document 01, "The typed call": the 35 function numbers.
 use mathlib.Core.List.{List, [], _∷_}
-use Prim.Native.Nat.{ℕ}
+use Prim.Native.Nat.{ℕ, _+_}
 use lib.IntN.{pos}
 use Rattle.refusals.specs.Answers.{Answer, accepted, refused, choose}
 use Rattle.refusals.specs.Errors.{refusal}
-use Rattle.function_ids.specs.CallTable.{form32, form64}
 use Rattle.function_ids.specs.declared.FunctionId.{FunctionId}
 use Rattle.function_ids.specs.declared.FunctionId.the-variants.{PsciVersion, CpuSuspend32, CpuSuspend64, CpuOff, CpuOn32, CpuOn64, AffinityInfo32, AffinityInfo64, Migrate32, Migrate64, MigrateInfoType, MigrateInfoUpCpu32, MigrateInfoUpCpu64, SystemOff, SystemReset, PsciFeatures, CpuFreeze, CpuDefaultSuspend32, CpuDefaultSuspend64, NodeHwState32, NodeHwState64, SystemSuspend32, SystemSuspend64, PsciSetSuspendMode, PsciStatResidency32, PsciStatResidency64, PsciStatCount32, PsciStatCount64, SystemReset232, SystemReset264, MemProtect, MemProtectCheckRange32, MemProtectCheckRange64, SystemOff232, SystemOff264}
 use Rattle.function_ids.specs.declared.FunctionIdResult.{FunctionIdResult}
 use Rattle.function_ids.specs.declared.FunctionIdResult.the-variants.{Ok, Err}
+
+-- Number 0x84000000 + n is the 32-bit form, 0xc4000000 + n the 64-bit form.
+pub data Form : Type 0 where
+  narrow : Form
+  wide : Form
+
+abbrev pub form32 : ℕ → ℕ
+form32 n = 0x84000000 + n
+
+abbrev pub form64 : ℕ → ℕ
+form64 n = 0xc4000000 + n
 
 abbrev pub functionNumber : FunctionId → ℕ
 functionNumber PsciVersion = form32 0x00

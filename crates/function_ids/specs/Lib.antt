@@ -1,3 +1,2 @@
-pub mod CallTable
 pub mod FunctionIds
 pub mod Inverse

@@ -5,7 +5,7 @@ use lib.Dec.{leb}
 use lib.IntN.{pos}
 use Rattle.refusals.specs.Answers.{Answer, refused, through, andThen}
 use Rattle.mpidrs.specs.declared.Mpidr.{Mpidr}
-use Rattle.compound_words.specs.declared.power_states.PowerState.{PowerState}
+use Rattle.power_states.specs.declared.PowerState.{PowerState}
 use Rattle.function.specs.declared.Function.{Function}
 use Rattle.function.specs.declared.Function.the-variants.{AffinityInfo}
 

@@ -2,14 +2,14 @@
 // answer.
 ghost use mathlib.Core.Path.{_≡_};
 ghost use Rattle.mpidrs.specs.Mpidrs.{mpidrAnswer};
-ghost use Rattle.compound_words.specs.PowerStates.{powerStateAnswer};
+ghost use Rattle.power_states.specs.PowerStates.{powerStateAnswer};
 ghost use Rattle.function.specs.Functions.{functionAnswer};
 ghost use Rattle.function.specs.declared.Function.the-variants.{StatResidency, StatCount};
 ghost use Rattle.ordered_calls.specs.Calls.{affinityInfo, ofCoreState};
-use compound_words::PowerStateResult;
 use function::Function;
 use function::FunctionResult;
 use mpidrs::MpidrResult;
+use power_states::PowerStateResult;
 use refusals::Error;
 
 // The level is checked before the MPIDR.

@@ -1,12 +1,12 @@
 -- The cases M1 to M12 hold. Assumes nothing.
 use mathlib.Core.Path.{refl}
 use Rattle.codes.specs.Codes.{readErrorCode, readErrorCode64}
-use Rattle.function_ids.specs.CallTable.{ruleOf}
 use Rattle.function_ids.specs.FunctionIds.{readFunctionId}
+use Rattle.call_table.specs.CallTable.{ruleOf}
 use Rattle.mpidrs.specs.Mpidrs.{readMpidr32, readMpidr64, writeMpidr64}
-use Rattle.compound_words.specs.PowerStates.{readPowerState}
-use Rattle.compound_words.specs.ResetTypes.{readArchitecturalResetType, readResetType}
-use Rattle.compound_words.specs.Versions.{readVersion}
+use Rattle.versions.specs.Versions.{readVersion}
+use Rattle.power_states.specs.PowerStates.{readPowerState}
+use Rattle.reset_types.specs.ResetTypes.{readArchitecturalResetType, readResetType}
 use Rattle.function.specs.Functions.{functionIdOf}
 use Rattle.decoding.specs.Decode.{callIn, decodeOf}
 use Rattle.arguments.specs.Arguments.{argumentsOf}

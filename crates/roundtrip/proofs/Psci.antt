@@ -8,10 +8,10 @@ use lib.ListN.{length, getD}
 use borrow.Author.Tests.{eq-eqb}
 use Rattle.refusals.specs.Answers.{Answer, accepted}
 use Rattle.refusals.proofs.Answering.{came-then}
-use Rattle.function_ids.specs.CallTable.{lowHalf, whole, partOf, Look, nothing, value, zeroOrNot, ruleOf, lookAt, keep, numberIn, kept, valueIn}
 use Rattle.function_ids.specs.FunctionIds.{functionNumber, readFunctionId}
 use Rattle.function_ids.specs.declared.FunctionId.{FunctionId}
-use Rattle.function_ids.proofs.Table.{function-number}
+use Rattle.function_ids.proofs.Inverse.{function-number}
+use Rattle.call_table.specs.CallTable.{lowHalf, whole, partOf, Look, nothing, value, zeroOrNot, ruleOf, lookAt, keep, numberIn, kept, valueIn}
 use Rattle.function.specs.declared.Function.{Function}
 use Rattle.decoding.specs.Decode.{callOf, callIn, decodeOf}
 use Rattle.encode.specs.Encode.{wordsOf, encodeOf}

@@ -8,16 +8,17 @@ use lib.Dec.{leb}
 use lib.IntN.{ℤ, pos}
 use Rattle.refusals.specs.Answers.{Answer, accepted, refused, through}
 use Rattle.refusals.specs.Inverses.{WritesBack, always, Word32}
-use Rattle.function_ids.specs.CallTable.{Form, narrow, wide, lowHalf, whole, Look, nothing, value, zeroOrNot, ruleOf, lookAt, valueIn}
-use Rattle.function_ids.specs.FunctionIds.{functionNumber}
+use Rattle.function_ids.specs.FunctionIds.{Form, narrow, wide, functionNumber}
 use Rattle.function_ids.specs.declared.FunctionId.{FunctionId}
 use Rattle.function_ids.specs.declared.FunctionId.the-variants as id
+use Rattle.call_table.specs.CallTable.{lowHalf, whole, Look, nothing, value, zeroOrNot, ruleOf, lookAt, valueIn}
 use Rattle.mpidrs.specs.Mpidrs.{readMpidr32, readMpidr64, writeMpidr64}
 use Rattle.mpidrs.specs.declared.Mpidr.{Mpidr}
 use Rattle.mpidrs.proofs.MpidrWords.{mpidr32-wide, mpidr64-wide}
-use Rattle.compound_words.specs.PowerStates.{readPowerState, writePowerState}
-use Rattle.compound_words.specs.declared.power_states.PowerState.{PowerState}
-use Rattle.compound_words.proofs.Inverses.{compound-laws}
+use Rattle.power_states.specs.PowerStates.{readPowerState, writePowerState}
+use Rattle.power_states.specs.declared.PowerState.{PowerState}
+use Rattle.power_states.proofs.Inverses.{power-state-laws}
+use Rattle.reset_types.proofs.Inverses.{reset-type-laws}
 use Rattle.words.proofs.Inverses.{word-laws}
 use Rattle.function.specs.Functions.{mpidrForm, functionIdOf}
 use Rattle.function.specs.declared.Function.{Function}
@@ -56,7 +57,7 @@ module _ {A : Type 0} (call : A → Function) (words : List ℕ) where
 
 state-row : (call : PowerState → Function) (words : List ℕ) (a : ℕ) → a < 2 ^ 32 →
     ((s : PowerState) → writePowerState s ≡ accepted a → wordsOf (call s) ≡ accepted words) → Writes (through call (readPowerState a)) words
-state-row call words a h f = answered call words (readPowerState a) (λ s e. f s (compound-laws .power-state-writes-back a s h e))
+state-row call words a h f = answered call words (readPowerState a) (λ s e. f s (power-state-laws .power-state-writes-back a s h e))
 
 -- a core address in either form
 abbrev mpidrAt : Form → ℕ → Answer Mpidr
@@ -138,8 +139,8 @@ row-law id.PsciStatResidency32 a b c p q s = core-state-row narrow _ _ a b q (λ
 row-law id.PsciStatResidency64 a b c p q s = core-state-row wide _ _ a b q (λ m x k e u. simp (k, e, u, s))
 row-law id.PsciStatCount32 a b c p q s = core-state-row narrow _ _ a b q (λ m x k e u. simp (k, e, u, s))
 row-law id.PsciStatCount64 a b c p q s = core-state-row wide _ _ a b q (λ m x k e u. simp (k, e, u, s))
-row-law id.SystemReset232 a b c p q s = number-row _ _ _ _ (compound-laws .reset-type-writes-back) a p (λ x e. simp (e, s))
-row-law id.SystemReset264 a b c p q s = number-row _ _ _ _ (compound-laws .reset-type-writes-back) a p (λ x e. simp (e, s))
+row-law id.SystemReset232 a b c p q s = number-row _ _ _ _ (reset-type-laws .reset-type-writes-back) a p (λ x e. simp (e, s))
+row-law id.SystemReset264 a b c p q s = number-row _ _ _ _ (reset-type-laws .reset-type-writes-back) a p (λ x e. simp (e, s))
 row-law id.MemProtect a b c p q s = rw (q, s) (protect-row a p)
 row-law id.MemProtectCheckRange32 a b c p q s = simp s
 row-law id.MemProtectCheckRange64 a b c p q s = simp s

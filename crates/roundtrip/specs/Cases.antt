@@ -10,12 +10,12 @@ use Rattle.codes.specs.Codes.{codeNumber, readErrorCode, readErrorCode64}
 use Rattle.codes.specs.declared.ErrorCode.the-variants.{InvalidAddress}
 use Rattle.mpidrs.specs.Mpidrs.{mpidrOf}
 use Rattle.mpidrs.specs.declared.Aff3.the-variants.{Some}
-use Rattle.compound_words.specs.PowerStates.{readPowerState}
-use Rattle.compound_words.specs.ResetTypes.{readResetType}
-use Rattle.compound_words.specs.Versions.{versionOf, readVersion}
-use Rattle.compound_words.specs.declared.power_states.PowerState.the-variants.{PowerDown}
-use Rattle.compound_words.specs.declared.reset_types.ArchitecturalResetType.the-variants.{SystemWarmReset}
-use Rattle.compound_words.specs.declared.reset_types.ResetType.the-variants.{Architectural, VendorSpecific}
+use Rattle.versions.specs.Versions.{versionOf, readVersion}
+use Rattle.power_states.specs.PowerStates.{readPowerState}
+use Rattle.power_states.specs.declared.PowerState.the-variants.{PowerDown}
+use Rattle.reset_types.specs.ResetTypes.{readResetType}
+use Rattle.reset_types.specs.declared.ArchitecturalResetType.the-variants.{SystemWarmReset}
+use Rattle.reset_types.specs.declared.ResetType.the-variants.{Architectural, VendorSpecific}
 use Rattle.words.specs.declared.entry_points.EntryPoint.the-variants.{Entry64}
 use Rattle.function.specs.declared.Function.{Function}
 use Rattle.function.specs.declared.Function.the-variants.{Version, CpuOff, CpuOn, AffinityInfo, MemProtect}

@@ -5,7 +5,7 @@ use mathlib.Core.Logic.{_⊎_}
 use Prim.Native.Nat.{ℕ, _/_, _%_, _^_, _<_}
 use lib.ListN.{length, getD}
 use Rattle.refusals.specs.Answers.{Answer, accepted}
-use Rattle.function_ids.specs.CallTable.{Part, lowHalf, whole, partOf, Look, nothing, value, zeroOrNot, numberIn}
+use Rattle.call_table.specs.CallTable.{Part, lowHalf, whole, partOf, Look, nothing, value, zeroOrNot, numberIn}
 use Rattle.encode.specs.Encode.{left}
 
 -- A codec: its typed calls, what decoding gives for four registers, what encoding gives for a call and a lent run, and what is looked at

@@ -1,5 +1,5 @@
 -- Document 01's codec, and demand 3 of it.
-use Rattle.function_ids.specs.CallTable.{lookAt}
+use Rattle.call_table.specs.CallTable.{lookAt}
 use Rattle.function.specs.declared.Function.{Function}
 use Rattle.decoding.specs.Decode.{decodeOf}
 use Rattle.encode.specs.Encode.{encodeOf}

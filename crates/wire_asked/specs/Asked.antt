@@ -14,13 +14,13 @@ use Rattle.codes.specs.declared.ReturnCode.the-variants as return
 use Rattle.mpidrs.specs.Mpidrs.{mpidrOf}
 use Rattle.mpidrs.specs.declared.Aff3.the-variants.{None, Some}
 use Rattle.mpidrs.specs.declared.Mpidr.{Mpidr}
-use Rattle.compound_words.specs.Versions.{versionOf}
-use Rattle.compound_words.specs.declared.power_states.PowerState.{PowerState}
-use Rattle.compound_words.specs.declared.power_states.PowerState.the-variants.{StandbyOrRetention, PowerDown}
-use Rattle.compound_words.specs.declared.reset_types.ArchitecturalResetType.the-variants.{SystemWarmReset}
-use Rattle.compound_words.specs.declared.reset_types.ResetType.{ResetType}
-use Rattle.compound_words.specs.declared.reset_types.ResetType.the-variants.{Architectural, VendorSpecific}
-use Rattle.compound_words.specs.declared.versions.Version.{Version}
+use Rattle.versions.specs.Versions.{versionOf}
+use Rattle.versions.specs.declared.Version.{Version}
+use Rattle.power_states.specs.declared.PowerState.{PowerState}
+use Rattle.power_states.specs.declared.PowerState.the-variants.{StandbyOrRetention, PowerDown}
+use Rattle.reset_types.specs.declared.ArchitecturalResetType.the-variants.{SystemWarmReset}
+use Rattle.reset_types.specs.declared.ResetType.{ResetType}
+use Rattle.reset_types.specs.declared.ResetType.the-variants.{Architectural, VendorSpecific}
 use Rattle.words.specs.declared.cookies.Cookie.{Cookie}
 use Rattle.words.specs.declared.cookies.Cookie.the-variants.{Cookie32, Cookie64}
 use Rattle.words.specs.declared.entry_points.EntryPoint.{EntryPoint}

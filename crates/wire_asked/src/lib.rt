@@ -7,12 +7,12 @@ ghost use Rattle.wire_asked.specs.Asked.{either, mpidrIn, powerStateIn, 
 pub mod errors;
 
 use codes::ReturnCode;
-use compound_words::ArchitecturalResetType;
-use compound_words::PowerState;
-use compound_words::ResetType;
-use compound_words::Version;
 use mpidrs::Aff3;
 use mpidrs::Mpidr;
+use power_states::PowerState;
+use reset_types::ArchitecturalResetType;
+use reset_types::ResetType;
+use versions::Version;
 use wire_places::code_at;
 use wire_places::function_at;
 use wire_words::low8;

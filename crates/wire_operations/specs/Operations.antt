@@ -9,9 +9,9 @@ use Rattle.function_ids.specs.FunctionIds.{functionNumber, readFunctionId}
 use Rattle.codes.specs.Codes.{readErrorCode, readErrorCode64, readReturnCode, codeNumber, returnNumber, errorCodeOf}
 use Rattle.mpidrs.specs.Mpidrs.{mpidrOf, mpidr64, readMpidr32, readMpidr64, writeMpidr32, writeMpidr64}
 use Rattle.mpidrs.specs.declared.Aff3.the-variants.{None, Some}
-use Rattle.compound_words.specs.PowerStates.{readPowerState, writePowerState}
-use Rattle.compound_words.specs.ResetTypes.{readArchitecturalResetType, readResetType, writeResetType}
-use Rattle.compound_words.specs.Versions.{readVersion, writeVersion}
+use Rattle.versions.specs.Versions.{readVersion, writeVersion}
+use Rattle.power_states.specs.PowerStates.{readPowerState, writePowerState}
+use Rattle.reset_types.specs.ResetTypes.{readArchitecturalResetType, readResetType, writeResetType}
 use Rattle.words.specs.EntryPoints.{entryAddress, entryContext}
 use Rattle.words.specs.HwStates.{readHwState, hwStateNumber}
 use Rattle.words.specs.PsciFeatures.{readFeature, featureNumber}

@@ -5,16 +5,16 @@ use lib.ListN.{getD}
 use Rattle.refusals.specs.Errors.{refusalNumber, refusalValue}
 use Rattle.refusals.specs.declared.Error.{Error}
 use Rattle.bits.specs.Signs.{wordOf}
-use Rattle.function_ids.specs.CallTable.{Form, narrow, wide}
+use Rattle.function_ids.specs.FunctionIds.{Form, narrow, wide}
 use Rattle.codes.specs.declared.ReturnCode.{ReturnCode}
 use Rattle.codes.specs.declared.ReturnCode.the-variants as return
 use Rattle.mpidrs.specs.Mpidrs.{aff3Number}
 use Rattle.mpidrs.specs.declared.Mpidr.{Mpidr}
-use Rattle.compound_words.specs.declared.power_states.PowerState.{PowerState}
-use Rattle.compound_words.specs.declared.power_states.PowerState.the-variants.{StandbyOrRetention, PowerDown}
-use Rattle.compound_words.specs.declared.reset_types.ResetType.{ResetType}
-use Rattle.compound_words.specs.declared.reset_types.ResetType.the-variants.{Architectural, VendorSpecific}
-use Rattle.compound_words.specs.declared.versions.Version.{Version}
+use Rattle.versions.specs.declared.Version.{Version}
+use Rattle.power_states.specs.declared.PowerState.{PowerState}
+use Rattle.power_states.specs.declared.PowerState.the-variants.{StandbyOrRetention, PowerDown}
+use Rattle.reset_types.specs.declared.ResetType.{ResetType}
+use Rattle.reset_types.specs.declared.ResetType.the-variants.{Architectural, VendorSpecific}
 use Rattle.words.specs.EntryPoints.{entryAddress, entryContext}
 use Rattle.words.specs.declared.cookies.Cookie.{Cookie}
 use Rattle.words.specs.declared.entry_points.EntryPoint.{EntryPoint}

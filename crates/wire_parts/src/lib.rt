@@ -19,11 +19,11 @@ use crate::parts::vendor_type;
 use crate::parts::wide8;
 use crate::parts::wide16;
 use codes::ReturnCode;
-use compound_words::PowerState;
-use compound_words::ResetType;
-use compound_words::Version;
 use mpidrs::Mpidr;
+use power_states::PowerState;
 use refusals::Error;
+use reset_types::ResetType;
+use versions::Version;
 use words::EntryPoint;
 use words::PsciFeature;
 

@@ -4,10 +4,10 @@ ghost use Rattle.function.specs.Functions.{entryForm, cookieForm, rangeForm, mp
 ghost use Rattle.mpidrs.specs.Mpidrs.{aff3Number};
 ghost use Rattle.wire_parts.specs.Parts.{formPart, downPart, stateId, vendorPart, vendorType, smcccPart, featurePlace, failurePart, failurePlace};
 use codes::ReturnCode;
-use compound_words::PowerState;
-use compound_words::ResetType;
 use mpidrs::Aff3;
 use mpidrs::Mpidr;
+use power_states::PowerState;
+use reset_types::ResetType;
 use wire_places::code_place;
 use wire_places::function_place;
 use words::Cookie;

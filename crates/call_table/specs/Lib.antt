@@ -1,0 +1,2 @@
+pub mod CallTable
+pub mod Numbers

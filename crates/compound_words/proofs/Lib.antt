@@ -1,4 +1,0 @@
-pub mod Inverses
-pub mod PowerStateWords
-pub mod ResetTypeWords
-pub mod VersionWords

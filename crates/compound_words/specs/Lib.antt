@@ -1,4 +1,0 @@
-pub mod Inverses
-pub mod PowerStates
-pub mod ResetTypes
-pub mod Versions
