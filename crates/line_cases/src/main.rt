@@ -48,7 +48,7 @@ fn show_line(record: usize, regs: [u64; 4], out: &mut [u8]) {
 fn show_record(at: usize, record: usize) {
     let log = LOG;
     let mut out = [b'.'; 80];
-    let regs = call_log::registers_of(call_log::record_at(&log, at));
+    let regs = log_records::registers_of(log_records::record_at(&log, at));
     show_line(record, regs, &mut out);
 }
 

@@ -1,8 +1,8 @@
 // Prints what the log and its reader answer, a line for each answer.
-use call_log::LogError;
 use call_log::OpenResult;
 use call_log::ReadResult;
 use log_count::Counted;
+use log_errors::LogError;
 
 fn number(n: u64) {
     io::print_decimal(1, n);
@@ -75,7 +75,7 @@ pub(crate) fn show_part(log: &[u8], at: usize) {
     io::write_all(1, b"part at ");
     number(at as u64);
     io::write_all(1, b": length ");
-    number(call_log::record_at(log, at).len() as u64);
+    number(log_records::record_at(log, at).len() as u64);
     new_line();
 }
 
