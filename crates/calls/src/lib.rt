@@ -22,21 +22,21 @@ use words::PsciFeatureResult;
 use words::SuspendModeResult;
 use words::SystemOff2TypeResult;
 
-pub fn entry32(entry_point_address: u32, context_id: u32) -> EntryPoint
-    ensures { λ r. ⌜ r ≡ EntryPoint.Entry32 «entry_point_address» «context_id» ⌝ }
+pub fn entry32(low_address: u32, low_context: u32) -> EntryPoint
+    ensures { λ r. ⌜ r ≡ EntryPoint.Entry32 «low_address» «low_context» ⌝ }
 {
     EntryPoint::Entry32 {
-        entry_point_address,
-        context_id,
+        entry_point_address: low_address,
+        context_id: low_context,
     }
 }
 
-pub fn entry64(entry_point_address: u64, context_id: u64) -> EntryPoint
-    ensures { λ r. ⌜ r ≡ EntryPoint.Entry64 «entry_point_address» «context_id» ⌝ }
+pub fn entry64(address: u64, context: u64) -> EntryPoint
+    ensures { λ r. ⌜ r ≡ EntryPoint.Entry64 address context ⌝ }
 {
     EntryPoint::Entry64 {
-        entry_point_address,
-        context_id,
+        entry_point_address: address,
+        context_id: context,
     }
 }
 
