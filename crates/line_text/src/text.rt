@@ -1,12 +1,9 @@
-// Writers of text: each puts its text into a run at a place, leaves all else as it was, and gives the place after it.
+// Writers where there is room: each puts its text into a run at a place, leaves all else as it was, and gives the place after it.
 ghost use mathlib.Core.Path.{_≡_};
 ghost use mathlib.Core.List.{[], _∷_};
 ghost use Prim.Native.Nat.{_+_, _≤_, _<_};
 ghost use lib.ListN.{length};
-ghost use Rattle.record_line.specs.Text.{Wrote, space, glyph, hexadecimal, wordText, wordsText, decimalIn, decimal};
-
-// No number of 64 bits has more decimal digits.
-const MOST_DIGITS: usize = 20;
+ghost use Rattle.line_text.specs.Text.{Wrote, space, glyph, hexadecimal, wordText, decimalIn};
 
 // From the character after `9` to `a`.
 const TO_LETTERS: u64 = 39;
@@ -21,8 +18,8 @@ fn digit(d: u64) -> u8
     (0x30 + d + letter * TO_LETTERS) as u8
 }
 
-pub(crate) fn put(out: &mut [u8], at: usize, byte: u8) -> usize
-    requires { ⌜ at < length (now out) ⌝ }
+fn put(out: &mut [u8], at: usize, byte: u8) -> usize
+    requires { ⌜ at + 1 ≤ length (now out) ⌝ }
     ensures { λ r. ⌜ Wrote (now (out .entry)) at (byte ∷ []) (now (out .exit)) r ⌝ }
 {
     out[at] = byte;
@@ -48,7 +45,7 @@ fn put_four(out: &mut [u8], at: usize, n: u64) -> usize
 }
 
 // n in decimal, of at most k digits.
-fn put_digits(out: &mut [u8], at: usize, n: u64, k: usize) -> usize
+pub(crate) fn put_digits(out: &mut [u8], at: usize, n: u64, k: usize) -> usize
     requires { ⌜ at + k ≤ length (now out) ⌝ }
     ensures { λ r. ⌜ Wrote (now (out .entry)) at (decimalIn k n) (now (out .exit)) r ⌝ }
 {
@@ -62,22 +59,6 @@ fn put_digits(out: &mut [u8], at: usize, n: u64, k: usize) -> usize
     put_digit(out, last, n % 10)
 }
 
-pub(crate) fn put_decimal(out: &mut [u8], at: usize, n: u64) -> usize
-    requires { ⌜ at + 20 ≤ length (now out) ⌝ }
-    ensures { λ r. ⌜ Wrote (now (out .entry)) at (decimal n) (now (out .exit)) r ⌝ }
-{
-    put_digits(out, at, n, MOST_DIGITS)
-}
-
-// A space and a number in decimal.
-pub(crate) fn put_number(out: &mut [u8], at: usize, n: u64) -> usize
-    requires { ⌜ at + 21 ≤ length (now out) ⌝ }
-    ensures { λ r. ⌜ Wrote (now (out .entry)) at (space ∷ decimal n) (now (out .exit)) r ⌝ }
-{
-    let first = put(out, at, b' ');
-    put_decimal(out, first, n)
-}
-
 // A space and the 16 hexadecimal digits of a word.
 pub(crate) fn put_word(out: &mut [u8], at: usize, word: u64) -> usize
     requires { ⌜ at + 17 ≤ length (now out) ⌝ }
@@ -88,25 +69,4 @@ pub(crate) fn put_word(out: &mut [u8], at: usize, word: u64) -> usize
     let b = put_four(out, a, word / 0x1_0000_0000);
     let c = put_four(out, b, word / 0x1_0000);
     put_four(out, c, word)
-}
-
-// Four words, each after a space.
-pub(crate) fn put_words(out: &mut [u8], at: usize, words: [u64; 4]) -> usize
-    requires { ⌜ at + 68 ≤ length (now out) ⌝ }
-    ensures { λ r. ⌜ Wrote (now (out .entry)) at (wordsText words) (now (out .exit)) r ⌝ }
-{
-    let a = put_word(out, at, words[0]);
-    let b = put_word(out, a, words[1]);
-    let c = put_word(out, b, words[2]);
-    put_word(out, c, words[3])
-}
-
-// A space and two letters.
-pub(crate) fn put_tag(out: &mut [u8], at: usize, a: u8, b: u8) -> usize
-    requires { ⌜ at + 3 ≤ length (now out) ⌝ }
-    ensures { λ r. ⌜ Wrote (now (out .entry)) at (space ∷ a ∷ b ∷ []) (now (out .exit)) r ⌝ }
-{
-    let first = put(out, at, b' ');
-    let second = put(out, first, a);
-    put(out, second, b)
 }
