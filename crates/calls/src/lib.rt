@@ -22,24 +22,6 @@ use words::PsciFeatureResult;
 use words::SuspendModeResult;
 use words::SystemOff2TypeResult;
 
-pub fn entry32(low_address: u32, low_context: u32) -> EntryPoint
-    ensures { λ r. ⌜ r ≡ EntryPoint.Entry32 «low_address» «low_context» ⌝ }
-{
-    EntryPoint::Entry32 {
-        entry_point_address: low_address,
-        context_id: low_context,
-    }
-}
-
-pub fn entry64(address: u64, context: u64) -> EntryPoint
-    ensures { λ r. ⌜ r ≡ EntryPoint.Entry64 address context ⌝ }
-{
-    EntryPoint::Entry64 {
-        entry_point_address: address,
-        context_id: context,
-    }
-}
-
 // The state is made anew for each type: a copy of its eight bytes would be one store across what are two fields in other calls, and the
 // compiler would then keep all of them in memory until the end (docs/BENCHMARKS.md).
 fn suspend(state: PowerState, entry: EntryPoint) -> Function

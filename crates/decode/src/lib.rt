@@ -29,16 +29,19 @@ pub fn decode(regs: [u64; 4]) -> FunctionResult
     let c = (r3 % 0x1_0000_0000) as u32;
     match number {
         0x8400_0000 => return FunctionResult::Ok(Function::Version),
-        0x8400_0001 => return calls::cpu_suspend(PowerState::try_from_u32(a), calls::entry32(b, c)),
+        0x8400_0001 => return calls::cpu_suspend(
+            PowerState::try_from_u32(a),
+            entries::entry32(b, c),
+        ),
         0xc400_0001 => return calls::cpu_suspend(
             PowerState::try_from_u32(a),
-            calls::entry64(r2, r3),
+            entries::entry64(r2, r3),
         ),
         0x8400_0002 => return FunctionResult::Ok(Function::CpuOff),
-        0x8400_0003 => return core_calls::cpu_on(Mpidr::try_from_u32(a), calls::entry32(b, c)),
-        0xc400_0003 => return core_calls::cpu_on(Mpidr::try_from_u64(r1), calls::entry64(r2, r3)),
-        0x8400_0004 => return ordered_calls::affinity_info_32(b, Mpidr::try_from_u32(a)),
-        0xc400_0004 => return ordered_calls::affinity_info_64(b, Mpidr::try_from_u64(r1)),
+        0x8400_0003 => return core_calls::cpu_on(Mpidr::try_from_u32(a), entries::entry32(b, c)),
+        0xc400_0003 => return core_calls::cpu_on(Mpidr::try_from_u64(r1), entries::entry64(r2, r3)),
+        0x8400_0004 => return affinity_calls::affinity_info_32(b, Mpidr::try_from_u32(a)),
+        0xc400_0004 => return affinity_calls::affinity_info_64(b, Mpidr::try_from_u64(r1)),
         0x8400_0005 => return core_calls::migrate(Mpidr::try_from_u32(a)),
         0xc400_0005 => return core_calls::migrate(Mpidr::try_from_u64(r1)),
         0x8400_0006 => return FunctionResult::Ok(Function::MigrateInfoType),
@@ -49,33 +52,33 @@ pub fn decode(regs: [u64; 4]) -> FunctionResult
         0x8400_000a => return calls::features(PsciFeature::try_from_u32(a)),
         0x8400_000b => return FunctionResult::Ok(Function::CpuFreeze),
         0x8400_000c => return FunctionResult::Ok(Function::CpuDefaultSuspend {
-            entry: calls::entry32(a, b),
+            entry: entries::entry32(a, b),
         }),
         0xc400_000c => return FunctionResult::Ok(Function::CpuDefaultSuspend {
-            entry: calls::entry64(r1, r2),
+            entry: entries::entry64(r1, r2),
         }),
         0x8400_000d => return core_calls::node_hw_state(Mpidr::try_from_u32(a), b),
         0xc400_000d => return core_calls::node_hw_state(Mpidr::try_from_u64(r1), b),
         0x8400_000e => return FunctionResult::Ok(Function::SystemSuspend {
-            entry: calls::entry32(a, b),
+            entry: entries::entry32(a, b),
         }),
         0xc400_000e => return FunctionResult::Ok(Function::SystemSuspend {
-            entry: calls::entry64(r1, r2),
+            entry: entries::entry64(r1, r2),
         }),
         0x8400_000f => return calls::set_suspend_mode(SuspendMode::try_from_u32(a)),
-        0x8400_0010 => return ordered_calls::stat_residency(
+        0x8400_0010 => return stat_calls::stat_residency(
             Mpidr::try_from_u32(a),
             PowerState::try_from_u32(b),
         ),
-        0xc400_0010 => return ordered_calls::stat_residency(
+        0xc400_0010 => return stat_calls::stat_residency(
             Mpidr::try_from_u64(r1),
             PowerState::try_from_u32(b),
         ),
-        0x8400_0011 => return ordered_calls::stat_count(
+        0x8400_0011 => return stat_calls::stat_count(
             Mpidr::try_from_u32(a),
             PowerState::try_from_u32(b),
         ),
-        0xc400_0011 => return ordered_calls::stat_count(
+        0xc400_0011 => return stat_calls::stat_count(
             Mpidr::try_from_u64(r1),
             PowerState::try_from_u32(b),
         ),

@@ -23,7 +23,8 @@ use Rattle.words.proofs.Inverses.{word-laws}
 use Rattle.function.specs.Functions.{mpidrForm, functionIdOf}
 use Rattle.function.specs.declared.Function.{Function}
 use Rattle.function.specs.declared.Function.the-variants.{AffinityInfo}
-use Rattle.ordered_calls.specs.Calls.{affinityInfo, ofCoreState}
+use Rattle.affinity_calls.specs.AffinityInfo.{affinityInfo}
+use Rattle.stat_calls.specs.CoreStates.{ofCoreState}
 use Rattle.decoding.specs.Decode.{callOf}
 use Rattle.arguments.specs.Arguments.{argumentsOf}
 use Rattle.encode.specs.Encode.{wordsOf}

@@ -1,8 +1,8 @@
--- `ordered_calls::stat_count` meets its contract.
+-- `stat_calls::stat_count` meets its contract.
 -- Assumes nothing.
 use borrow.Author.Needs.{needs}
-use Rattle.ordered_calls.proofs.stat_count.Statement.{statement}
-use Rattle.ordered_calls.proofs.stat_count.Tie as tie
+use Rattle.stat_calls.proofs.stat_count.Statement.{statement}
+use Rattle.stat_calls.proofs.stat_count.Tie as tie
 
 pub stat-count-spec : {M : Type 1} → statement M
 stat-count-spec =

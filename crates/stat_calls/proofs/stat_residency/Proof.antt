@@ -1,8 +1,8 @@
--- `ordered_calls::stat_residency` meets its contract.
+-- `stat_calls::stat_residency` meets its contract.
 -- Assumes nothing.
 use borrow.Author.Needs.{needs}
-use Rattle.ordered_calls.proofs.stat_residency.Statement.{statement}
-use Rattle.ordered_calls.proofs.stat_residency.Tie as tie
+use Rattle.stat_calls.proofs.stat_residency.Statement.{statement}
+use Rattle.stat_calls.proofs.stat_residency.Tie as tie
 
 pub stat-residency-spec : {M : Type 1} → statement M
 stat-residency-spec =

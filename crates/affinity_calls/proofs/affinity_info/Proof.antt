@@ -1,9 +1,9 @@
--- `ordered_calls::affinity_info` meets its contract.
+-- `affinity_calls::affinity_info` meets its contract.
 -- Assumes nothing.
 use borrow.Author.Needs.{needs}
 use borrow.Author.Tests.{le-leb, lt-leb}
-use Rattle.ordered_calls.proofs.affinity_info.Statement.{statement}
-use Rattle.ordered_calls.proofs.affinity_info.Tie as tie
+use Rattle.affinity_calls.proofs.affinity_info.Statement.{statement}
+use Rattle.affinity_calls.proofs.affinity_info.Tie as tie
 
 pub affinity-info-spec : {M : Type 1} → statement M
 affinity-info-spec =
