@@ -10,7 +10,8 @@ use Rattle.refusals.specs.Answers.{Answer, accepted, refused}
 use Rattle.refusals.proofs.Answering.{handed-on, not-accepted}
 use Rattle.function.specs.declared.Function.{Function}
 use Rattle.decoding.specs.Decode.{decodeOf}
-use Rattle.encode.specs.Encode.{wordsOf, encodeOf, left, encodeAnswer}
+use Rattle.encoding.specs.Encode.{wordsOf, encodeOf, left}
+use Rattle.encode.specs.Answers.{encodeAnswer}
 use Rattle.encode.specs.declared.EncodeResult.{EncodeResult}
 use Rattle.encode.specs.declared.EncodeResult.the-variants.{Ok}
 use Rattle.roundtrip.specs.Codec.{Registers, wordsIn}

@@ -3,7 +3,7 @@ use mathlib.Core.List.{List}
 use Prim.Native.Nat.{ℕ}
 use Rattle.refusals.specs.Answers.{Answer, andThen}
 use Rattle.decoding.specs.Decode.{decodeOf}
-use Rattle.encode.specs.Encode.{encodeOf}
+use Rattle.encoding.specs.Encode.{encodeOf}
 
 -- decode's refusals first, then encode's
 abbrev pub recodeOf : List ℕ → List ℕ → Answer (List ℕ)

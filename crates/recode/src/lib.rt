@@ -1,7 +1,8 @@
 // Decoding and encoding in one: the program's part in demand 3.
 ghost use mathlib.Core.Path.{_≡_};
 ghost use Rattle.decoding.specs.Decode.{decodeOf};
-ghost use Rattle.encode.specs.Encode.{encodeAnswer, left};
+ghost use Rattle.encoding.specs.Encode.{left};
+ghost use Rattle.encode.specs.Answers.{encodeAnswer};
 ghost use Rattle.encode.specs.declared.EncodeResult.the-variants.{Ok as Written};
 ghost use Rattle.recode.specs.Recode.{recodeOf};
 use encode::EncodeResult;

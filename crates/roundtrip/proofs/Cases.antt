@@ -10,7 +10,7 @@ use Rattle.reset_types.specs.ResetTypes.{readArchitecturalResetType, readResetT
 use Rattle.function.specs.Functions.{functionIdOf}
 use Rattle.decoding.specs.Decode.{callIn, decodeOf}
 use Rattle.arguments.specs.Arguments.{argumentsOf}
-use Rattle.encode.specs.Encode.{wordsOf}
+use Rattle.encoding.specs.Encode.{wordsOf}
 use Rattle.roundtrip.specs.Cases.{Cases}
 
 pub cases : Cases

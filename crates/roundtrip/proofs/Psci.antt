@@ -14,7 +14,7 @@ use Rattle.function_ids.proofs.Inverse.{function-number}
 use Rattle.call_table.specs.CallTable.{lowHalf, whole, partOf, Look, nothing, value, zeroOrNot, ruleOf, lookAt, keep, numberIn, kept, valueIn}
 use Rattle.function.specs.declared.Function.{Function}
 use Rattle.decoding.specs.Decode.{callOf, callIn, decodeOf}
-use Rattle.encode.specs.Encode.{wordsOf, encodeOf}
+use Rattle.encoding.specs.Encode.{wordsOf, encodeOf}
 use Rattle.roundtrip.specs.Codec.{Registers}
 use Rattle.roundtrip.specs.Psci.{psci, Demand3Of01}
 use Rattle.roundtrip.proofs.Demand3.{small, demand3}

@@ -27,7 +27,7 @@ use Rattle.affinity_calls.specs.AffinityInfo.{affinityInfo}
 use Rattle.stat_calls.specs.CoreStates.{ofCoreState}
 use Rattle.decoding.specs.Decode.{callOf}
 use Rattle.arguments.specs.Arguments.{argumentsOf}
-use Rattle.encode.specs.Encode.{wordsOf}
+use Rattle.encoding.specs.Encode.{wordsOf}
 
 -- what is accepted is written as these words
 abbrev pub Writes : Answer Function → List ℕ → Type 0

@@ -20,7 +20,7 @@ use Rattle.words.specs.declared.entry_points.EntryPoint.the-variants.{Entry64}
 use Rattle.function.specs.declared.Function.{Function}
 use Rattle.function.specs.declared.Function.the-variants.{Version, CpuOff, CpuOn, AffinityInfo, MemProtect}
 use Rattle.decoding.specs.Decode.{decodeOf}
-use Rattle.encode.specs.Encode.{wordsOf}
+use Rattle.encoding.specs.Encode.{wordsOf}
 
 -- a set is decoded as f
 abbrev pub Reads : List ℕ → Function → Type 0

@@ -2,7 +2,7 @@
 use Rattle.call_table.specs.CallTable.{lookAt}
 use Rattle.function.specs.declared.Function.{Function}
 use Rattle.decoding.specs.Decode.{decodeOf}
-use Rattle.encode.specs.Encode.{encodeOf}
+use Rattle.encoding.specs.Encode.{encodeOf}
 use Rattle.roundtrip.specs.Codec.{Codec, Demand3}
 
 abbrev pub psci : Codec

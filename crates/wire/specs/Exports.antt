@@ -4,7 +4,7 @@ use Prim.Native.Nat.{ℕ}
 use lib.IntN.{ℤ, pos}
 use Rattle.bits.specs.Signs.{wordOf}
 use Rattle.refusals.specs.Answers.{Answer, accepted, refused, andThen}
-use Rattle.encode.specs.Encode.{encodeOf}
+use Rattle.encoding.specs.Encode.{encodeOf}
 use Rattle.wire_call_asked.specs.CallAsked.{callAsked}
 use Rattle.wire.specs.declared.Refusal.{Refusal}
 

@@ -4,7 +4,7 @@ ghost use lib.IntN.{pos};
 ghost use Rattle.refusals.specs.Answers.{through};
 ghost use Rattle.refusals.specs.Errors.{refusalNumber, refusalValue};
 ghost use Rattle.decoding.specs.Decode.{decodeOf};
-ghost use Rattle.encode.specs.Encode.{left};
+ghost use Rattle.encoding.specs.Encode.{left};
 ghost use Rattle.recode.specs.Recode.{recodeOf};
 ghost use Rattle.wire_call_words.specs.CallWords.{callWords};
 ghost use Rattle.wire.specs.Exports.{refusalIs, refusalIn, encodeWords};

@@ -5,7 +5,7 @@ use Rattle.refusals.specs.Answers.{through, andThen}
 use Rattle.function_ids.specs.FunctionIds.{functionNumber}
 use Rattle.function.specs.Functions.{functionIdOf}
 use Rattle.decoding.specs.Decode.{decodeOf}
-use Rattle.encode.specs.Encode.{encodeOf}
+use Rattle.encoding.specs.Encode.{encodeOf}
 use Rattle.wire_call_words.specs.CallWords.{callWords}
 use Rattle.wire_call_asked.specs.CallAsked.{callAsked}
 use Rattle.wire_words.specs.Words.{nineIn, regsIn}

@@ -5,7 +5,7 @@ use borrow.Author.Needs.{needs}
 use Rattle.refusals.specs.Answers.{accepted}
 use Rattle.function_ids.specs.FunctionIds.{functionIdAnswer}
 use Rattle.arguments.specs.Arguments.{argumentsAnswer}
-use Rattle.encode.proofs.Laws.{turned-back, written, wrong-length, no-number, no-arguments, all-words}
+use Rattle.encoding.proofs.Laws.{turned-back, written, wrong-length, no-number, no-arguments, all-words}
 use Rattle.encode.proofs.encode.Statement.{statement}
 use Rattle.encode.proofs.encode.Tie as tie
 

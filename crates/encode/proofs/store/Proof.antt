@@ -2,7 +2,7 @@
 -- Assumes nothing.
 use mathlib.Core.Path.{_∙_}
 use borrow.Author.Needs.{needs}
-use Rattle.encode.proofs.Laws.{four, of-four}
+use Rattle.encode.proofs.Stores.{four, of-four}
 use Rattle.encode.proofs.store.Statement.{statement}
 use Rattle.encode.proofs.store.Tie as tie
 

@@ -2,7 +2,7 @@
 -- Assumes nothing.
 use mathlib.Core.Path.{sym, ap, _∙_}
 use borrow.Author.Needs.{needs}
-use Rattle.encode.specs.Encode.{encodeOf}
+use Rattle.encoding.specs.Encode.{encodeOf}
 use Rattle.wire_call_asked.specs.CallAsked.{callAsked, askedAnswer}
 use Rattle.wire_words.specs.Words.{regsIn}
 use Rattle.wire_call_records.proofs.Laws.{wrote, asked-then, not-asked}

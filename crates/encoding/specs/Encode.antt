@@ -6,14 +6,11 @@ use lib.Dec.{eqb}
 use lib.IntN.{pos}
 use lib.ListN.{length}
 use Rattle.refusals.specs.Answers.{Answer, accepted, refused, through, andThen}
-use Rattle.refusals.specs.Errors.{refusal}
 use Rattle.function_ids.specs.FunctionIds.{functionNumber}
 use Rattle.function_ids.specs.declared.FunctionId.{FunctionId}
 use Rattle.function.specs.Functions.{functionIdOf}
 use Rattle.function.specs.declared.Function.{Function}
 use Rattle.arguments.specs.Arguments.{argumentsOf}
-use Rattle.encode.specs.declared.EncodeResult.{EncodeResult}
-use Rattle.encode.specs.declared.EncodeResult.the-variants.{Ok, Err}
 
 -- word 0 is the function number; refusal 14 is its, 15 that of a power state
 unfoldable pub wordsOf : Function → Answer (List ℕ)
@@ -27,8 +24,3 @@ encodeOf f run = cond (eqb (length run) 4) (wordsOf f) (refused 17 (pos (length 
 abbrev pub left : Answer (List ℕ) → List ℕ → List ℕ
 left (accepted words) run = words
 left (refused number value) run = run
-
--- what encoding says, of the words in the run afterwards
-abbrev pub encodeAnswer : EncodeResult → List ℕ → Answer (List ℕ)
-encodeAnswer Ok words = accepted words
-encodeAnswer (Err e) words = refusal e
