@@ -20,7 +20,8 @@ use Rattle.power_states.specs.declared.PowerState.{PowerState}
 use Rattle.power_states.proofs.Inverses.{power-state-laws}
 use Rattle.reset_types.proofs.Inverses.{reset-type-laws}
 use Rattle.words.proofs.Inverses.{word-laws}
-use Rattle.function.specs.Functions.{mpidrForm, functionIdOf}
+use Rattle.forms.specs.Forms.{mpidrForm}
+use Rattle.function.specs.Functions.{functionIdOf}
 use Rattle.function.specs.declared.Function.{Function}
 use Rattle.function.specs.declared.Function.the-variants.{AffinityInfo}
 use Rattle.affinity_calls.specs.AffinityInfo.{affinityInfo}

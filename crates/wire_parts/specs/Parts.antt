@@ -21,7 +21,7 @@ use Rattle.words.specs.declared.entry_points.EntryPoint.{EntryPoint}
 use Rattle.words.specs.declared.mem_protect_ranges.MemProtectRange.{MemProtectRange}
 use Rattle.words.specs.declared.psci_features.PsciFeature.{PsciFeature}
 use Rattle.words.specs.declared.psci_features.PsciFeature.the-variants.{PsciFunction, SmcccVersion}
-use Rattle.function.specs.Functions.{entryForm, cookieForm, rangeForm, mpidrForm}
+use Rattle.forms.specs.Forms.{entryForm, cookieForm, rangeForm, mpidrForm}
 use Rattle.wire_places.specs.Places.{functionPlace, codePlace}
 use Rattle.field_words.specs.FieldWords.{cookieWord, baseWord, lengthWord}
 

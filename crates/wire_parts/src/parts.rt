@@ -1,6 +1,6 @@
 // The parts of a value, each as a word.
 ghost use mathlib.Core.Path.{_≡_};
-ghost use Rattle.function.specs.Functions.{entryForm, cookieForm, rangeForm, mpidrForm};
+ghost use Rattle.forms.specs.Forms.{entryForm, cookieForm, rangeForm, mpidrForm};
 ghost use Rattle.mpidrs.specs.Mpidrs.{aff3Number};
 ghost use Rattle.wire_parts.specs.Parts.{formPart, downPart, stateId, vendorPart, vendorType, smcccPart, featurePlace, failurePart, failurePlace};
 use codes::ReturnCode;

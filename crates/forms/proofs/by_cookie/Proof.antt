@@ -1,8 +1,8 @@
--- `function::by_cookie` meets its contract.
+-- `forms::by_cookie` meets its contract.
 -- Assumes nothing.
 use borrow.Author.Needs.{needs}
-use Rattle.function.proofs.by_cookie.Statement.{statement}
-use Rattle.function.proofs.by_cookie.Tie as tie
+use Rattle.forms.proofs.by_cookie.Statement.{statement}
+use Rattle.forms.proofs.by_cookie.Tie as tie
 
 pub by-cookie-spec : {M : Type 1} → statement M
 by-cookie-spec =

@@ -1,8 +1,8 @@
--- `function::by_flag` meets its contract.
+-- `forms::by_flag` meets its contract.
 -- Assumes nothing.
 use borrow.Author.Needs.{needs}
-use Rattle.function.proofs.by_flag.Statement.{statement}
-use Rattle.function.proofs.by_flag.Tie as tie
+use Rattle.forms.proofs.by_flag.Statement.{statement}
+use Rattle.forms.proofs.by_flag.Tie as tie
 
 pub by-flag-spec : {M : Type 1} → statement M
 by-flag-spec =

@@ -1,8 +1,8 @@
--- `function::by_mpidr` meets its contract.
+-- `forms::by_mpidr` meets its contract.
 -- Assumes nothing.
 use borrow.Author.Needs.{needs}
-use Rattle.function.proofs.by_mpidr.Statement.{statement}
-use Rattle.function.proofs.by_mpidr.Tie as tie
+use Rattle.forms.proofs.by_mpidr.Statement.{statement}
+use Rattle.forms.proofs.by_mpidr.Tie as tie
 
 pub by-mpidr-spec : {M : Type 1} → statement M
 by-mpidr-spec =

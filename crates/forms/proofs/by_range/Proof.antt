@@ -1,8 +1,8 @@
--- `function::by_range` meets its contract.
+-- `forms::by_range` meets its contract.
 -- Assumes nothing.
 use borrow.Author.Needs.{needs}
-use Rattle.function.proofs.by_range.Statement.{statement}
-use Rattle.function.proofs.by_range.Tie as tie
+use Rattle.forms.proofs.by_range.Statement.{statement}
+use Rattle.forms.proofs.by_range.Tie as tie
 
 pub by-range-spec : {M : Type 1} → statement M
 by-range-spec =

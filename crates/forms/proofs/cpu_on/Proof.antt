@@ -1,8 +1,8 @@
--- `function::cpu_on` meets its contract.
+-- `forms::cpu_on` meets its contract.
 -- Assumes nothing.
 use borrow.Author.Needs.{needs}
-use Rattle.function.proofs.cpu_on.Statement.{statement}
-use Rattle.function.proofs.cpu_on.Tie as tie
+use Rattle.forms.proofs.cpu_on.Statement.{statement}
+use Rattle.forms.proofs.cpu_on.Tie as tie
 
 pub cpu-on-spec : {M : Type 1} → statement M
 cpu-on-spec =

@@ -1,8 +1,8 @@
--- `function::by_entry` meets its contract.
+-- `forms::by_entry` meets its contract.
 -- Assumes nothing.
 use borrow.Author.Needs.{needs}
-use Rattle.function.proofs.by_entry.Statement.{statement}
-use Rattle.function.proofs.by_entry.Tie as tie
+use Rattle.forms.proofs.by_entry.Statement.{statement}
+use Rattle.forms.proofs.by_entry.Tie as tie
 
 pub by-entry-spec : {M : Type 1} → statement M
 by-entry-spec =
