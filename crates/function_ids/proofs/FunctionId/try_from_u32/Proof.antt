@@ -1,4 +1,4 @@
--- `FunctionId::try_from_u32` meets its contract: each arm has the number of the function that it gives, and the last arm none of them. Assumes nothing.
+-- `FunctionId::try_from_u32` meets its contract: the last arm has the number of no function, and each other arm that of its own. Assumes nothing.
 use mathlib.Core.Path.{sym, ap}
 use Rattle.function_ids.specs.FunctionIds.{functionNumber, readFunctionId, functions}
 use Rattle.refusals.proofs.Choosing.{none-chosen}
@@ -10,6 +10,7 @@ unfolding readFunctionId
 try-from-u32-spec =
     tie.close
     (tie.spec
+    (λ c. none-chosen functionNumber _ (λ x. x) _ functions (c .match .rest))
     (λ c. sym (ap readFunctionId (c .match .keys1)))
     (λ c. sym (ap readFunctionId (c .match .keys2)))
     (λ c. sym (ap readFunctionId (c .match .keys3)))
@@ -44,5 +45,4 @@ try-from-u32-spec =
     (λ c. sym (ap readFunctionId (c .match .keys32)))
     (λ c. sym (ap readFunctionId (c .match .keys33)))
     (λ c. sym (ap readFunctionId (c .match .keys34)))
-    (λ c. sym (ap readFunctionId (c .match .keys35)))
-    (λ c. none-chosen functionNumber _ (λ x. x) _ functions (c .match .rest)))
+    (λ c. sym (ap readFunctionId (c .match .keys35))))
