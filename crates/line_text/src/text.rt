@@ -3,20 +3,9 @@ ghost use mathlib.Core.Path.{_≡_};
 ghost use mathlib.Core.List.{[], _∷_};
 ghost use Prim.Native.Nat.{_+_, _≤_, _<_};
 ghost use lib.ListN.{length};
-ghost use Rattle.line_text.specs.Text.{Wrote, space, glyph, hexadecimal, wordText, decimalIn};
-
-// From the character after `9` to `a`.
-const TO_LETTERS: u64 = 39;
-
-// A digit below 16. By a sum and not a test: the compiler then makes the digits of a word side by side (docs/BENCHMARKS.md).
-fn digit(d: u64) -> u8
-    requires { ⌜ d < 16 ⌝ }
-    ensures { λ r. ⌜ r ≡ glyph d ⌝ }
-{
-    // 1 from ten on
-    let letter = (d + 6) / 16;
-    (0x30 + d + letter * TO_LETTERS) as u8
-}
+ghost use Rattle.digits.specs.Digits.{glyph};
+ghost use Rattle.line_text.specs.Text.{Wrote, space, hexadecimal, wordText, decimalIn};
+use digits::digit;
 
 fn put(out: &mut [u8], at: usize, byte: u8) -> usize
     requires { ⌜ at + 1 ≤ length (now out) ⌝ }
@@ -26,6 +15,7 @@ fn put(out: &mut [u8], at: usize, byte: u8) -> usize
     at + 1
 }
 
+// A digit below 16.
 fn put_digit(out: &mut [u8], at: usize, d: u64) -> usize
     requires { ⌜ (at < length (now out)) × (d < 16) ⌝ }
     ensures { λ r. ⌜ Wrote (now (out .entry)) at (glyph d ∷ []) (now (out .exit)) r ⌝ }
