@@ -44,25 +44,25 @@ pub fn argument_words(function: Function) -> ArgumentsResult
         Function::AffinityInfo {
             mpidr,
             lowest_affinity_level,
-        } => three(mpidr.to_u64(), wide(lowest_affinity_level), 0),
+        } => three(mpidr.to_u64(), lowest_affinity_level as u64, 0),
         Function::Migrate { target_affinity } => three(target_affinity.to_u64(), 0, 0),
         Function::MigrateInfoType => three(0, 0, 0),
         Function::MigrateInfoUpCpu { .. } => three(0, 0, 0),
         Function::SystemOff => three(0, 0, 0),
         Function::SystemOff2 { off_type, cookie } => three(
-            wide(off_type.to_u32()),
+            off_type.to_u32() as u64,
             cookie_word(cookie),
             0,
         ),
         Function::SystemReset => three(0, 0, 0),
         Function::SystemReset2 { reset_type, cookie } => three(
-            wide(reset_type.to_u32()),
+            reset_type.to_u32() as u64,
             cookie_word(cookie),
             0,
         ),
         Function::MemProtect { enabled } => three(flag_word(enabled), 0, 0),
         Function::MemProtectCheckRange { range } => three(base_word(range), length_word(range), 0),
-        Function::Features { psci_func_id } => three(wide(psci_func_id.to_u32()), 0, 0),
+        Function::Features { psci_func_id } => three(psci_func_id.to_u32() as u64, 0, 0),
         Function::CpuFreeze => three(0, 0, 0),
         Function::CpuDefaultSuspend { entry } => three(
             entry.entry_point_address(),
@@ -72,13 +72,13 @@ pub fn argument_words(function: Function) -> ArgumentsResult
         Function::NodeHwState {
             target_cpu,
             power_level,
-        } => three(target_cpu.to_u64(), wide(power_level), 0),
+        } => three(target_cpu.to_u64(), power_level as u64, 0),
         Function::SystemSuspend { entry } => three(
             entry.entry_point_address(),
             entry.context_id(),
             0,
         ),
-        Function::SetSuspendMode { mode } => three(wide(mode.to_u32()), 0, 0),
+        Function::SetSuspendMode { mode } => three(mode.to_u32() as u64, 0, 0),
         Function::StatResidency {
             target_cpu,
             power_state,
@@ -114,10 +114,4 @@ fn with_second(r1: u64, word: WordResult) -> ArgumentsResult
         WordResult::Ok(r2) => three(r1, r2 as u64, 0),
         WordResult::Err(error) => ArgumentsResult::Err(error),
     }
-}
-
-fn wide(word: u32) -> u64
-    ensures { λ r. ⌜ r ≡ word ⌝ }
-{
-    word as u64
 }
