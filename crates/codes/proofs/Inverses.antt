@@ -11,7 +11,7 @@ use Rattle.bits.specs.Signs.{signed, wordOf, fitsIn}
 use Rattle.bits.proofs.Picks.{if-true, if-false}
 use Rattle.bits.proofs.TwosComplement.{signed-back, word-back}
 use Rattle.refusals.specs.Answers.{Answer, accepted, refused, through}
-use Rattle.refusals.specs.Inverses.{WritesBack, ReadsBack, always}
+use Rattle.refusals.specs.Inverses.{WritesBack, ReadsBack, always, Any}
 use Rattle.refusals.proofs.Answering.{not-accepted, handed-on, at-once-or-through}
 use Rattle.refusals.proofs.Choosing.{chosen-number}
 use Rattle.refusals.proofs.Inverting.{writes-always, reads-always}
@@ -92,10 +92,10 @@ module _ (k : ℕ) (read : ℤ → Answer ErrorCode) where
       writes-always read-word write-word (λ (word : ℕ). word < 2 ^ suc k)
       (λ word c h q. ap (wordOf (suc k)) (is (signed (suc k) word) c q) ∙ word-back (suc k) word h)
 
-  word-reads : 2 ^ 32 ≤ 2 ^ suc k → ((c : ErrorCode) → read (codeNumber c) ≡ accepted c) → ReadsBack (λ (c : ErrorCode). Unit {0}) (always write-word) read-word
+  word-reads : 2 ^ 32 ≤ 2 ^ suc k → ((c : ErrorCode) → read (codeNumber c) ≡ accepted c) → ReadsBack Any (always write-word) read-word
   unfolding read-word write-word
   word-reads wide back =
-      reads-always read-word write-word (λ (c : ErrorCode). Unit {0})
+      reads-always read-word write-word Any
       (λ c h. ap read (sym (signed-back k (codeNumber c) (code-fits (suc k) wide c))) ∙ back c)
 
 pub code-laws : CodeLaws

@@ -2,6 +2,7 @@
 use mathlib.Core.Path.{_≡_, refl}
 use Prim.Native.Nat.{ℕ}
 use Rattle.refusals.specs.Answers.{accepted}
+use Rattle.refusals.specs.Inverses.{Any}
 use Rattle.refusals.proofs.Choosing.{numbered-is, numbered-writes, numbered-reads}
 use Rattle.function_ids.specs.FunctionIds.{functions, functionNumber, readFunctionId}
 use Rattle.function_ids.specs.Inverse.{FunctionIdLaws}
@@ -55,6 +56,6 @@ function-back SystemOff264 = refl
 pub function-id-laws : FunctionIdLaws
 unfolding readFunctionId
 function-id-laws = record {
-  writes-back = numbered-writes functionNumber functions 1 (λ (word : ℕ). Unit {0});
-  reads-back = numbered-reads functionNumber functions 1 (λ (f : FunctionId). Unit {0}) function-back;
+  writes-back = numbered-writes functionNumber functions 1 Any;
+  reads-back = numbered-reads functionNumber functions 1 Any function-back;
 }
