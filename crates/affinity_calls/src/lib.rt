@@ -2,7 +2,7 @@
 ghost use mathlib.Core.Path.{_≡_};
 ghost use Rattle.mpidrs.specs.Mpidrs.{mpidrAnswer};
 ghost use Rattle.function.specs.Functions.{functionAnswer};
-ghost use Rattle.affinity_calls.specs.AffinityInfo.{affinityInfo};
+ghost use Rattle.function.specs.AffinityInfo.{affinityInfo};
 use function::Function;
 use function::FunctionResult;
 use mpidrs::MpidrResult;

@@ -1,1 +1,1 @@
-pub mod Arguments
+pub mod Answers

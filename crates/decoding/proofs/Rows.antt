@@ -21,8 +21,8 @@ use Rattle.words.specs.declared.cookies.Cookie.the-variants.{Cookie32, Cookie64
 use Rattle.words.specs.declared.mem_protect_ranges.MemProtectRange.the-variants.{Range32, Range64}
 use Rattle.function.specs.declared.Function.{Function}
 use Rattle.function.specs.declared.Function.the-variants.{Version, CpuSuspend, CpuOff, CpuOn, AffinityInfo, Migrate, MigrateInfoType, MigrateInfoUpCpu, SystemOff, SystemOff2, SystemReset, SystemReset2, MemProtect, MemProtectCheckRange, Features, CpuFreeze, CpuDefaultSuspend, NodeHwState, SystemSuspend, SetSuspendMode, StatResidency, StatCount}
-use Rattle.affinity_calls.specs.AffinityInfo.{affinityInfo}
-use Rattle.stat_calls.specs.CoreStates.{ofCoreState}
+use Rattle.function.specs.AffinityInfo.{affinityInfo}
+use Rattle.function.specs.CoreStates.{ofCoreState}
 use Rattle.decoding.specs.Decode.{decodeOf}
 use Rattle.decoding.proofs.Laws.{zero-kept, knownOf, known-is}
 

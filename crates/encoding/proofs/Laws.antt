@@ -10,7 +10,7 @@ use Rattle.function_ids.specs.FunctionIds.{functionNumber}
 use Rattle.function_ids.specs.declared.FunctionId.{FunctionId}
 use Rattle.function.specs.Functions.{functionIdOf}
 use Rattle.function.specs.declared.Function.{Function}
-use Rattle.arguments.specs.Arguments.{argumentsOf}
+use Rattle.function.specs.Arguments.{argumentsOf}
 use Rattle.encoding.specs.Encode.{encodeOf, wordsOf, left}
 
 module _ (f : Function) (run : List ℕ) where

@@ -10,7 +10,7 @@ use Rattle.function_ids.specs.FunctionIds.{functionNumber}
 use Rattle.function_ids.specs.declared.FunctionId.{FunctionId}
 use Rattle.function.specs.Functions.{functionIdOf}
 use Rattle.function.specs.declared.Function.{Function}
-use Rattle.arguments.specs.Arguments.{argumentsOf}
+use Rattle.function.specs.Arguments.{argumentsOf}
 
 -- word 0 is the function number; refusal 14 is its, 15 that of a power state
 unfoldable pub wordsOf : Function → Answer (List ℕ)

@@ -1,1 +1,4 @@
+pub mod AffinityInfo
+pub mod Arguments
+pub mod CoreStates
 pub mod Functions

@@ -9,7 +9,7 @@ use Rattle.power_states.specs.PowerStates.{readPowerState}
 use Rattle.reset_types.specs.ResetTypes.{readArchitecturalResetType, readResetType}
 use Rattle.function.specs.Functions.{functionIdOf}
 use Rattle.decoding.specs.Decode.{callIn, decodeOf}
-use Rattle.arguments.specs.Arguments.{argumentsOf}
+use Rattle.function.specs.Arguments.{argumentsOf}
 use Rattle.encoding.specs.Encode.{wordsOf}
 use Rattle.roundtrip.specs.Cases.{Cases}
 

@@ -24,10 +24,10 @@ use Rattle.forms.specs.Forms.{mpidrForm}
 use Rattle.function.specs.Functions.{functionIdOf}
 use Rattle.function.specs.declared.Function.{Function}
 use Rattle.function.specs.declared.Function.the-variants.{AffinityInfo}
-use Rattle.affinity_calls.specs.AffinityInfo.{affinityInfo}
-use Rattle.stat_calls.specs.CoreStates.{ofCoreState}
+use Rattle.function.specs.AffinityInfo.{affinityInfo}
+use Rattle.function.specs.CoreStates.{ofCoreState}
 use Rattle.decoding.specs.Decode.{callOf}
-use Rattle.arguments.specs.Arguments.{argumentsOf}
+use Rattle.function.specs.Arguments.{argumentsOf}
 use Rattle.encoding.specs.Encode.{wordsOf}
 
 -- what is accepted is written as these words

@@ -4,7 +4,7 @@ ghost use Rattle.mpidrs.specs.Mpidrs.{mpidrAnswer};
 ghost use Rattle.power_states.specs.PowerStates.{powerStateAnswer};
 ghost use Rattle.function.specs.Functions.{functionAnswer};
 ghost use Rattle.function.specs.declared.Function.the-variants.{StatResidency, StatCount};
-ghost use Rattle.stat_calls.specs.CoreStates.{ofCoreState};
+ghost use Rattle.function.specs.CoreStates.{ofCoreState};
 use function::Function;
 use function::FunctionResult;
 use mpidrs::MpidrResult;

@@ -1,7 +1,7 @@
 -- `arguments::argument_words` meets its contract.
 -- Assumes nothing.
 use borrow.Author.Needs.{needs}
-use Rattle.arguments.specs.Arguments.{argumentsOf}
+use Rattle.function.specs.Arguments.{argumentsOf}
 use Rattle.arguments.proofs.argument_words.Statement.{statement}
 use Rattle.arguments.proofs.argument_words.Tie as tie
 

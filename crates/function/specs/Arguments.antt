@@ -2,7 +2,6 @@
 use mathlib.Core.List.{List, [], _∷_}
 use Prim.Native.Nat.{ℕ}
 use Rattle.refusals.specs.Answers.{Answer, accepted, through}
-use Rattle.refusals.specs.Errors.{refusal}
 use Rattle.mpidrs.specs.Mpidrs.{writeMpidr64}
 use Rattle.power_states.specs.PowerStates.{writePowerState}
 use Rattle.reset_types.specs.ResetTypes.{writeResetType}
@@ -11,15 +10,8 @@ use Rattle.words.specs.PsciFeatures.{featureNumber}
 use Rattle.words.specs.SuspendModes.{suspendModeNumber}
 use Rattle.words.specs.SystemOff2Types.{systemOff2Number}
 use Rattle.field_words.specs.FieldWords.{cookieWord, baseWord, lengthWord, flagWord}
 use Rattle.function.specs.declared.Function.{Function}
 use Rattle.function.specs.declared.Function.the-variants.{Version, CpuSuspend, CpuOff, CpuOn, AffinityInfo, Migrate, MigrateInfoType, MigrateInfoUpCpu, SystemOff, SystemOff2, SystemReset, SystemReset2, MemProtect, MemProtectCheckRange, Features, CpuFreeze, CpuDefaultSuspend, NodeHwState, SystemSuspend, SetSuspendMode, StatResidency, StatCount}
-use Rattle.arguments.specs.declared.Arguments.{Arguments}
-use Rattle.arguments.specs.declared.ArgumentsResult.{ArgumentsResult}
-use Rattle.arguments.specs.declared.ArgumentsResult.the-variants.{Ok, Err}
-
-abbrev pub argumentsAnswer : ArgumentsResult → Answer (List ℕ)
-argumentsAnswer (Ok a) = accepted (a .r1 ∷ a .r2 ∷ a .r3 ∷ [])
-argumentsAnswer (Err e) = refusal e
 
 abbrev three : ℕ → ℕ → ℕ → Answer (List ℕ)
 three x y z = accepted (x ∷ y ∷ z ∷ [])
