@@ -7,6 +7,7 @@ use function::FunctionResult;
 use mpidrs::Mpidr;
 use power_states::PowerState;
 use refusals::Error;
+use registers::number_in;
 use reset_types::ResetType;
 use words::Cookie;
 use words::MemProtectRange;
@@ -19,11 +20,11 @@ use words::SystemOff2Type;
 pub fn decode(regs: [u64; 4]) -> FunctionResult
     ensures { λ r. ⌜ functionAnswer r ≡ decodeOf regs ⌝ }
 {
+    let number = number_in(regs);
     let r1 = regs[1];
     let r2 = regs[2];
     let r3 = regs[3];
     // the low 32 bits of each
-    let number = (regs[0] % 0x1_0000_0000) as u32;
     let a = (r1 % 0x1_0000_0000) as u32;
     let b = (r2 % 0x1_0000_0000) as u32;
     let c = (r3 % 0x1_0000_0000) as u32;

@@ -34,7 +34,7 @@ known-is id regs p =
     simp (q, sym p, mod-mod)
 
 -- a set that has no function's number is refused with its number
-pub unknown-is : (regs : List ℕ) → NoneOf functionNumber (refused 1 (pos (numberIn regs))) (λ x. x) (numberIn regs) Unit functions →
-    refused 1 (pos (numberIn regs)) ≡ decodeOf regs
+pub unknown-is : (regs : List ℕ) (number : ℕ) → number ≡ numberIn regs → NoneOf functionNumber (refused 1 (pos number)) (λ x. x) number Unit functions →
+    refused 1 (pos number) ≡ decodeOf regs
 unfolding decodeOf callIn readFunctionId
-unknown-is regs none = simp (sym (none-chosen functionNumber (refused 1 (pos (numberIn regs))) (λ x. x) (numberIn regs) functions none))
+unknown-is regs number e none = simp (sym e, sym (none-chosen functionNumber (refused 1 (pos number)) (λ x. x) number functions none))

@@ -106,6 +106,6 @@ known-row id.SystemOff232 r1 r2 r3 = refl
 known-row id.SystemOff264 r1 r2 r3 = refl
 
 -- an answer that is a function's row is what the registers with that function's number decode to
-pub decoded : (id : FunctionId) (regs : List ℕ) → numberIn regs ≡ functionNumber id → (answer : Answer Function) →
+pub decoded : (id : FunctionId) (regs : List ℕ) (number : ℕ) → number ≡ numberIn regs → number ≡ functionNumber id → (answer : Answer Function) →
     answer ≡ rowCall id (getD regs 1 0) (getD regs 2 0) (getD regs 3 0) → answer ≡ decodeOf regs
-decoded id regs p answer q = q ∙ sym (known-row id _ _ _) ∙ known-is id regs p
+decoded id regs number e p answer q = q ∙ sym (known-row id _ _ _) ∙ known-is id regs (sym e ∙ p)
