@@ -5,7 +5,7 @@ use Prim.Native.Nat.{ℕ}
 use lib.ListN.{length}
 use Rattle.refusals.specs.Answers.{Answer, through}
 use Rattle.record_line.specs.Errors.{lineAnswer}
-use Rattle.record_line.specs.Line.{lineOf, fronted}
+use Rattle.lines.specs.Line.{lineOf, fronted}
 use Rattle.record_line.specs.declared.LineResult.{LineResult}
 use Rattle.wire_line.specs.Exports.{writtenIn}
 use Rattle.wire_line.specs.declared.Written.{Written}

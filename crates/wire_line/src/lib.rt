@@ -3,7 +3,7 @@ ghost use mathlib.Core.Path.{_≡_};
 ghost use lib.ListN.{length};
 ghost use Rattle.refusals.specs.Answers.{through};
 ghost use Rattle.record_line.specs.Errors.{lineRefusalNumber, lineRefusalValue};
-ghost use Rattle.record_line.specs.Line.{lineOf, fronted};
+ghost use Rattle.lines.specs.Line.{lineOf, fronted};
 ghost use Rattle.wire_line.specs.Exports.{refusedLine, writtenIn};
 use record_line::LineError;
 use record_line::LineResult;
