@@ -35,18 +35,19 @@ impl ErrorCode {
     pub fn try_from_i32(value: i32) -> ErrorCodeResult
         ensures { λ r. ⌜ errorCodeAnswer r ≡ readErrorCode value ⌝ }
     {
-        match value {
-            -1 => ErrorCodeResult::Ok(Self::NotSupported),
-            -2 => ErrorCodeResult::Ok(Self::InvalidParameters),
-            -3 => ErrorCodeResult::Ok(Self::Denied),
-            -4 => ErrorCodeResult::Ok(Self::AlreadyOn),
-            -5 => ErrorCodeResult::Ok(Self::OnPending),
-            -6 => ErrorCodeResult::Ok(Self::InternalFailure),
-            -7 => ErrorCodeResult::Ok(Self::NotPresent),
-            -8 => ErrorCodeResult::Ok(Self::Disabled),
-            -9 => ErrorCodeResult::Ok(Self::InvalidAddress),
-            _ => ErrorCodeResult::Err(Error::UnrecognisedErrorCode(value)),
-        }
+        let error_code = match value {
+            -1 => Self::NotSupported,
+            -2 => Self::InvalidParameters,
+            -3 => Self::Denied,
+            -4 => Self::AlreadyOn,
+            -5 => Self::OnPending,
+            -6 => Self::InternalFailure,
+            -7 => Self::NotPresent,
+            -8 => Self::Disabled,
+            -9 => Self::InvalidAddress,
+            _ => return ErrorCodeResult::Err(Error::UnrecognisedErrorCode(value)),
+        };
+        ErrorCodeResult::Ok(error_code)
     }
 
     pub fn try_from_u32(value: u32) -> ErrorCodeResult

@@ -1,4 +1,4 @@
--- `ErrorCode::try_from_i32` meets its contract: each arm has the number of the code that it gives, and the last arm none of them. Assumes nothing.
+-- `ErrorCode::try_from_i32` meets its contract: the last arm has the number of no code, and each other arm that of its own. Assumes nothing.
 use mathlib.Core.Path.{_≡_, refl, sym, ap, _∙_}
 use Prim.Native.Nat.{ℕ, _-_, _^_}
 use lib.IntN.{ℤ, pos, negsuc}
@@ -21,15 +21,16 @@ unfolding readErrorCode bits-of
 unknown (pos n) none = refl
 unknown (negsuc n) none = none-chosen codeSize (refused 9 (negsuc n)) bits-of _ errorCodes none
 
-returns-10 : tie.Need-returns-10
+no-code : tie.Need-returns
 unfolding readErrorCode bits-of
-returns-10 c = ap (refused 9) (toZ-ofZ (c .before .fits .value)) ∙ unknown (c .before .args .value) (c .match .rest)
+no-code c = ap (refused 9) (toZ-ofZ (c .before .fits .value)) ∙ unknown (c .before .args .value) (c .match .rest)
 
 pub try-from-i32-spec : {M : Type 1} → statement M
 unfolding readErrorCode
 try-from-i32-spec =
     tie.close
     (tie.spec
+    no-code
     (λ c. sym (ap readErrorCode (number-is w32 (c .before .fits .value) (c .match .keys1))))
     (λ c. sym (ap readErrorCode (number-is w32 (c .before .fits .value) (c .match .keys2))))
     (λ c. sym (ap readErrorCode (number-is w32 (c .before .fits .value) (c .match .keys3))))
@@ -38,5 +39,4 @@ try-from-i32-spec =
     (λ c. sym (ap readErrorCode (number-is w32 (c .before .fits .value) (c .match .keys6))))
     (λ c. sym (ap readErrorCode (number-is w32 (c .before .fits .value) (c .match .keys7))))
     (λ c. sym (ap readErrorCode (number-is w32 (c .before .fits .value) (c .match .keys8))))
-    (λ c. sym (ap readErrorCode (number-is w32 (c .before .fits .value) (c .match .keys9))))
-    returns-10)
+    (λ c. sym (ap readErrorCode (number-is w32 (c .before .fits .value) (c .match .keys9)))))
