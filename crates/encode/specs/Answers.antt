@@ -1,4 +1,4 @@
--- What encoding says, in document 01's terms.
+-- The result of encoding, in document 01's terms.
 use mathlib.Core.List.{List}
 use Prim.Native.Nat.{ℕ}
 use Rattle.refusals.specs.Answers.{Answer, accepted}
