@@ -9,21 +9,21 @@ use lib.Arith.{digits-lt}
 use lib.Dec.{T, leb, leb→le, lit<}
 use lib.Pow.{pow-add, pow-mono, high, low}
 use borrow.Author.Tests.{eq-eqb}
-use Rattle.bits.specs.Bits.{Field, _for_, bits, get, put, keep, only}
+use Rattle.bits.specs.Bits.{Field, _for_, bits, get, put, cutTo, only}
 use Rattle.bits.proofs.Masks.{rising, both, pow-split}
 
 -- there is a value for each field, and each fits its field
-abbrev pub Fit : List Field → List ℕ → Type 0
-Fit [] [] = Unit
-Fit [] (v ∷ vs) = ⊥
-Fit (f ∷ fs) [] = ⊥
-Fit (f ∷ fs) (v ∷ vs) = (v < 2 ^ f .count) × Fit fs vs
+abbrev pub FitFields : List Field → List ℕ → Type 0
+FitFields [] [] = Unit
+FitFields [] (v ∷ vs) = ⊥
+FitFields (f ∷ fs) [] = ⊥
+FitFields (f ∷ fs) (v ∷ vs) = (v < 2 ^ f .count) × FitFields fs vs
 
 -- each field of the word has its value
-abbrev pub Reads : List Field → List ℕ → ℕ → Type 0
-Reads [] vs word = Unit
-Reads (f ∷ fs) [] word = Unit
-Reads (f ∷ fs) (v ∷ vs) word = (bits f word ≡ v) × Reads fs vs word
+abbrev pub Holds : List Field → List ℕ → ℕ → Type 0
+Holds [] vs word = Unit
+Holds (f ∷ fs) [] word = Unit
+Holds (f ∷ fs) (v ∷ vs) word = (bits f word ≡ v) × Holds fs vs word
 
 -- what stands from bit k up, as a number of its own
 above : List Field → List ℕ → ℕ → ℕ
@@ -61,7 +61,7 @@ one lo count under v over h g =
     ∙ ap (λ (x : ℕ). x % 2 ^ count) (high (over * 2 ^ count + v) lo h)
     ∙ low over count g
 
-reads-from : (fs : List Field) (vs : List ℕ) (k under : ℕ) → T (rising k fs) → Fit fs vs → under < 2 ^ k → Reads fs vs (under + put fs vs)
+reads-from : (fs : List Field) (vs : List ℕ) (k under : ℕ) → T (rising k fs) → FitFields fs vs → under < 2 ^ k → Holds fs vs (under + put fs vs)
 reads-from [] vs k under t fit h = tt
 reads-from (f ∷ fs) [] k under t fit h = tt
 reads-from (f ∷ fs) (v ∷ vs) k under t fit h =
@@ -69,7 +69,7 @@ reads-from (f ∷ fs) (v ∷ vs) k under t fit h =
     let u : under < 2 ^ f .lo = omega arith in
     let e : put fs vs ≡ above fs vs (f .lo + f .count) * 2 ^ (f .lo + f .count) = is-above fs vs (f .lo + f .count) (later k f fs t) in (
       ap (λ (x : ℕ). bits f (under + (v * 2 ^ f .lo + x))) e ∙ one (f .lo) (f .count) under v (above fs vs (f .lo + f .count)) u (fit .0),
-      subst (Reads fs vs) (add-assoc under (v * 2 ^ f .lo) (put fs vs))
+      subst (Holds fs vs) (add-assoc under (v * 2 ^ f .lo) (put fs vs))
           (reads-from fs vs (f .lo + f .count) (under + v * 2 ^ f .lo) (later k f fs t) (fit .1) (room (f .lo) (f .count) under v u (fit .0))),
     )
   where
@@ -79,17 +79,17 @@ reads-from (f ∷ fs) (v ∷ vs) k under t fit h =
         let l : v * 2 ^ lo + under < 2 ^ count * 2 ^ lo = digits-lt g h in
         omega arith
 
-pub put-reads : (fs : List Field) (vs : List ℕ) → T (rising 0 fs) → Fit fs vs → Reads fs vs (put fs vs)
-put-reads fs vs t fit = subst (Reads fs vs) (zero-add (put fs vs)) (reads-from fs vs 0 0 t fit (lit< tt))
+pub put-reads : (fs : List Field) (vs : List ℕ) → T (rising 0 fs) → FitFields fs vs → Holds fs vs (put fs vs)
+put-reads fs vs t fit = subst (Holds fs vs) (zero-add (put fs vs)) (reads-from fs vs 0 0 t fit (lit< tt))
 
-got : (fs : List Field) (vs : List ℕ) (word : ℕ) → Fit fs vs → Reads fs vs word → get fs word ≡ vs
+got : (fs : List Field) (vs : List ℕ) (word : ℕ) → FitFields fs vs → Holds fs vs word → get fs word ≡ vs
 got [] [] word fit r = refl
 got [] (v ∷ vs) word fit r = absurd fit
 got (f ∷ fs) [] word fit r = absurd fit
 got (f ∷ fs) (v ∷ vs) word fit r = ap₂ _∷_ (r .0) (got fs vs word (fit .1) (r .1))
 
-pub put-get : (fs : List Field) (vs : List ℕ) → T (rising 0 fs) → Fit fs vs → get fs (put fs vs) ≡ vs
+pub put-get : (fs : List Field) (vs : List ℕ) → T (rising 0 fs) → FitFields fs vs → get fs (put fs vs) ≡ vs
 put-get fs vs t fit = got fs vs (put fs vs) fit (put-reads fs vs t fit)
 
-pub put-only : (fs : List Field) (vs : List ℕ) → T (rising 0 fs) → Fit fs vs → only fs (put fs vs) ≡ true
-put-only fs vs t fit = eq-eqb (keep fs (put fs vs)) (put fs vs) (ap (put fs) (put-get fs vs t fit))
+pub put-only : (fs : List Field) (vs : List ℕ) → T (rising 0 fs) → FitFields fs vs → only fs (put fs vs) ≡ true
+put-only fs vs t fit = eq-eqb (cutTo fs (put fs vs)) (put fs vs) (ap (put fs) (put-get fs vs t fit))

@@ -10,7 +10,7 @@ use lib.Dec.{T, leb, leb→le}
 use lib.Bits.{bitAnd, bitOr, or-shifted, and-block, and-high, and-zero-r, and-zero-l, and-step, and-mod, and-shr, and-mask}
 use lib.Pow.{pow-pos, pow-add, split, high-ones}
 use borrow.Author.Tests.{eq-eqb, ne-eqb}
-use Rattle.bits.specs.Bits.{Field, _for_, bits, keep, only}
+use Rattle.bits.specs.Bits.{Field, _for_, bits, cutTo, only}
 
 -- a mask with a part above bit k and a part below
 and-parts : (word k high low : ℕ) → low < 2 ^ k → bitAnd word (high * 2 ^ k + low) ≡ bitAnd (word / 2 ^ k) high * 2 ^ k + bitAnd (word % 2 ^ k) low
@@ -78,7 +78,7 @@ field-below lo count =
     (let p = pow-pos (lo + count) in let q = pow-pos lo in omega arith))
 
 -- `word & mask` keeps the mask's fields
-pub masked : (fs : List Field) (k : ℕ) → T (rising k fs) → (word : ℕ) → bitAnd word (maskOf fs) ≡ keep fs word
+pub masked : (fs : List Field) (k : ℕ) → T (rising k fs) → (word : ℕ) → bitAnd word (maskOf fs) ≡ cutTo fs word
 masked [] k t word = and-zero-r word
 masked (f ∷ fs) k t word =
     let r : T (rising (f .lo + f .count) fs) = both (leb k (f .lo)) (rising (f .lo + f .count) fs) t .1 in
@@ -87,7 +87,7 @@ masked (f ∷ fs) k t word =
     ap (bitAnd word) (add-comm ((2 ^ f .count - 1) * 2 ^ f .lo) (maskOf fs) ∙ ap (λ (x : ℕ). x + (2 ^ f .count - 1) * 2 ^ f .lo) e)
     ∙ and-add word n (high-part fs n) ((2 ^ f .count - 1) * 2 ^ f .lo) (field-below (f .lo) (f .count))
     ∙ ap₂ _+_ (ap (bitAnd word) (sym e) ∙ masked fs n r word) (and-field word (f .lo) (f .count))
-    ∙ add-comm (keep fs word) (bits f word * 2 ^ f .lo)
+    ∙ add-comm (cutTo fs word) (bits f word * 2 ^ f .lo)
 
 -- each digit of a word goes to the mask or to its complement
 digit-parts : (d m : ℕ) → d < 2 → m < 2 → min d (1 - m) + min d m ≡ d
@@ -110,16 +110,16 @@ and-complement (suc k) mask word h g =
     ∙ omega arith
 
 -- a word of k bits is what stands outside the fields, and the fields. The mask of what stands outside is the complement of the fields' mask
-pub outside : (k : ℕ) (fs : List Field) → T (rising 0 fs) → maskOf fs < 2 ^ k → (word : ℕ) → word < 2 ^ k → bitAnd word (2 ^ k - 1 - maskOf fs) + keep fs word ≡ word
+pub outside : (k : ℕ) (fs : List Field) → T (rising 0 fs) → maskOf fs < 2 ^ k → (word : ℕ) → word < 2 ^ k → bitAnd word (2 ^ k - 1 - maskOf fs) + cutTo fs word ≡ word
 outside k fs t h word g =
     ap (λ (x : ℕ). bitAnd word (2 ^ k - 1 - maskOf fs) + x) (sym (masked fs 0 t word)) ∙ and-complement k (maskOf fs) word h g
 
 -- a test of the bits outside the fields, and what `only` says
 pub none-outside : (k : ℕ) (fs : List Field) → T (rising 0 fs) → maskOf fs < 2 ^ k → (word : ℕ) → word < 2 ^ k → bitAnd word (2 ^ k - 1 - maskOf fs) ≡ 0 → only fs word ≡ true
-none-outside k fs t h word g z = let e = outside k fs t h word g in eq-eqb (keep fs word) word (omega arith)
+none-outside k fs t h word g z = let e = outside k fs t h word g in eq-eqb (cutTo fs word) word (omega arith)
 
 pub some-outside : (k : ℕ) (fs : List Field) → T (rising 0 fs) → maskOf fs < 2 ^ k → (word : ℕ) → word < 2 ^ k → (bitAnd word (2 ^ k - 1 - maskOf fs) ≡ 0 → ⊥) → only fs word ≡ false
-some-outside k fs t h word g z = let e = outside k fs t h word g in ne-eqb (keep fs word) word (λ q. z (omega arith))
+some-outside k fs t h word g z = let e = outside k fs t h word g in ne-eqb (cutTo fs word) word (λ q. z (omega arith))
 
 -- `a | b`, where a has no bit below bit k and b none from it up
 pub or-low : (k a b : ℕ) → a % 2 ^ k ≡ 0 → b < 2 ^ k → bitOr a b ≡ a + b

@@ -6,6 +6,7 @@ const LOWEST_32: i32 = -0x8000_0000;
 
 const LOWEST_64: i64 = -0x8000_0000_0000_0000;
 
+// The signed number that a word of 32 bits stands for, for every word.
 pub fn signed_32(word: u32) -> i32
     ensures { λ r. ⌜ r ≡ signed 32 word ⌝ }
 {
@@ -16,6 +17,7 @@ pub fn signed_32(word: u32) -> i32
     }
 }
 
+// The signed number that a word of 64 bits stands for, for every word.
 pub fn signed_64(word: u64) -> i64
     ensures { λ r. ⌜ r ≡ signed 64 word ⌝ }
 {
@@ -26,6 +28,7 @@ pub fn signed_64(word: u64) -> i64
     }
 }
 
+// The word of 32 bits that a signed number is written as: 0xffffffff for −1.
 pub fn word_32(value: i32) -> u32
     ensures { λ r. ⌜ r ≡ wordOf 32 value ⌝ }
 {
@@ -36,6 +39,7 @@ pub fn word_32(value: i32) -> u32
     }
 }
 
+// The word of 64 bits that a signed number is written as: all ones for −1.
 pub fn word_64(value: i64) -> u64
     ensures { λ r. ⌜ r ≡ wordOf 64 value ⌝ }
 {

@@ -61,6 +61,9 @@ abbrev pub returnCodeAnswer : ReturnCodeResult → Answer ReturnCode
 returnCodeAnswer (returned.Ok c) = accepted c
 returnCodeAnswer (returned.Err e) = refusal e
 
--- refusal 1 becomes code −1, every other refusal −2
+-- refusal 1 becomes code −1, every other refusal −2: by its number, whichever operation refuses
+abbrev pub codeOfRefusal : ℕ → ErrorCode
+codeOfRefusal number = cond (eqb number 1) NotSupported InvalidParameters
+
 abbrev pub errorCodeOf : Error → ErrorCode
-errorCodeOf e = cond (eqb (refusalNumber e) 1) NotSupported InvalidParameters
+errorCodeOf e = codeOfRefusal (refusalNumber e)

@@ -1,5 +1,6 @@
+// Error codes and return codes, signed, with their readers and writers: document 01, "Single words".
 ghost use mathlib.Core.Path.{_≡_};
-ghost use Rattle.codes.specs.Codes.{errorCodeOf, codeNumber, errorCodeAnswer, readErrorCode, readErrorCode64, returnNumber, returnCodeAnswer, readReturnCode};
+ghost use Rattle.codes.specs.Codes.{codeOfRefusal, errorCodeOf, codeNumber, errorCodeAnswer, readErrorCode, readErrorCode64, returnNumber, returnCodeAnswer, readReturnCode};
 ghost use Rattle.bits.specs.Signs.{signed, wordOf};
 use bits::signs;
 use refusals::Error;
@@ -17,21 +18,32 @@ pub enum ErrorCode {
     InvalidAddress,
 }
 
+// What reading an error code gives.
 pub enum ErrorCodeResult {
     Ok(ErrorCode),
     Err(Error),
 }
 
 impl ErrorCode {
-    pub fn from_error(value: Error) -> Self
-        ensures { λ r. ⌜ r ≡ errorCodeOf value ⌝ }
+    // The code of a refusal by document 01's number: 1 becomes −1, every other number −2. It serves the refusals of the log and the line too.
+    pub fn from_refusal(number: u64) -> Self
+        ensures { λ r. ⌜ r ≡ codeOfRefusal number ⌝ }
     {
-        match value {
-            Error::UnrecognisedFunctionId(_) => Self::NotSupported,
-            _ => Self::InvalidParameters,
+        if number == 1 {
+            Self::NotSupported
+        } else {
+            Self::InvalidParameters
         }
     }
 
+    // The code of an error: that of its refusal's number.
+    pub fn from_error(value: Error) -> Self
+        ensures { λ r. ⌜ r ≡ errorCodeOf value ⌝ }
+    {
+        Self::from_refusal(value.number())
+    }
+
+    // The code of a signed number from −9 to −1; any other is refused with 9, and carried.
     pub fn try_from_i32(value: i32) -> ErrorCodeResult
         ensures { λ r. ⌜ errorCodeAnswer r ≡ readErrorCode value ⌝ }
     {
@@ -50,12 +62,14 @@ impl ErrorCode {
         ErrorCodeResult::Ok(error_code)
     }
 
+    // The same of a word of 32 bits, read as two's complement.
     pub fn try_from_u32(value: u32) -> ErrorCodeResult
         ensures { λ r. ⌜ errorCodeAnswer r ≡ readErrorCode (signed 32 value) ⌝ }
     {
         Self::try_from_i32(signs::signed_32(value))
     }
 
+    // The same of a word of 64 bits; a number that does not fit 32 bits is refused with 10 first, and carried.
     pub fn try_from_u64(value: u64) -> ErrorCodeResult
         ensures { λ r. ⌜ errorCodeAnswer r ≡ readErrorCode64 (signed 64 value) ⌝ }
     {
@@ -68,6 +82,7 @@ impl ErrorCode {
         ErrorCodeResult::Err(Error::OverflowingErrorCode(signs::signed_64(value)))
     }
 
+    // The code's number, −9 to −1.
     pub fn to_i32(self) -> i32
         ensures { λ r. ⌜ r ≡ codeNumber self ⌝ }
     {
@@ -84,12 +99,14 @@ impl ErrorCode {
         }
     }
 
+    // The same as a word of 32 bits, in two's complement.
     pub fn to_u32(self) -> u32
         ensures { λ r. ⌜ r ≡ wordOf 32 (codeNumber self) ⌝ }
     {
         signs::word_32(self.to_i32())
     }
 
+    // The same as a word of 64 bits: sign-extended.
     pub fn to_u64(self) -> u64
         ensures { λ r. ⌜ r ≡ wordOf 64 (codeNumber self) ⌝ }
     {
@@ -97,17 +114,20 @@ impl ErrorCode {
     }
 }
 
+// Success, or an error code.
 pub enum ReturnCode {
     Success,
     Error(ErrorCode),
 }
 
+// What reading a return code gives.
 pub enum ReturnCodeResult {
     Ok(ReturnCode),
     Err(Error),
 }
 
 impl ReturnCode {
+    // Success of 0, the error of a number from −9 to −1; any other is refused with 9, and carried.
     pub fn try_from_i32(value: i32) -> ReturnCodeResult
         ensures { λ r. ⌜ returnCodeAnswer r ≡ readReturnCode value ⌝ }
     {
@@ -120,6 +140,7 @@ impl ReturnCode {
         }
     }
 
+    // 0 for success, the error's number otherwise.
     pub fn to_i32(self) -> i32
         ensures { λ r. ⌜ r ≡ returnNumber self ⌝ }
     {

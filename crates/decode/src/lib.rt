@@ -1,17 +1,25 @@
 // Decoding: four registers to a typed call.
 ghost use mathlib.Core.Path.{_≡_};
 ghost use Rattle.function.specs.Functions.{functionAnswer};
-ghost use Rattle.decoding.specs.Decode.{decodeOf};
+ghost use Rattle.decode_definition.specs.Decode.{decodeOf};
+
+pub mod affinity_calls;
+pub mod calls;
+pub mod core_calls;
+pub mod registers;
+pub mod stat_calls;
+
+use crate::registers::number_in;
 use function::Function;
 use function::FunctionResult;
-use mpidrs::Mpidr;
-use power_states::PowerState;
+use function_ids::FunctionId;
 use refusals::Error;
-use registers::number_in;
-use reset_types::ResetType;
 use words::Cookie;
 use words::MemProtectRange;
+use words::Mpidr;
+use words::PowerState;
 use words::PsciFeature;
+use words::ResetType;
 use words::SuspendMode;
 use words::SystemOff2Type;
 
@@ -25,85 +33,118 @@ pub fn decode(regs: [u64; 4]) -> FunctionResult
     let r2 = regs[2];
     let r3 = regs[3];
     // the low 32 bits of each
-    let a = (r1 % 0x1_0000_0000) as u32;
-    let b = (r2 % 0x1_0000_0000) as u32;
-    let c = (r3 % 0x1_0000_0000) as u32;
+    let low1 = (r1 % 0x1_0000_0000) as u32;
+    let low2 = (r2 % 0x1_0000_0000) as u32;
+    let low3 = (r3 % 0x1_0000_0000) as u32;
     match number {
-        0x8400_0000 => return FunctionResult::Ok(Function::Version),
-        0x8400_0001 => return calls::cpu_suspend(
-            PowerState::try_from_u32(a),
-            entries::entry32(b, c),
+        FunctionId::PSCI_VERSION => return FunctionResult::Ok(Function::Version),
+        FunctionId::CPU_SUSPEND_32 => return calls::cpu_suspend(
+            PowerState::try_from_u32(low1),
+            words::entry32(low2, low3),
         ),
-        0xc400_0001 => return calls::cpu_suspend(
-            PowerState::try_from_u32(a),
-            entries::entry64(r2, r3),
+        FunctionId::CPU_SUSPEND_64 => return calls::cpu_suspend(
+            PowerState::try_from_u32(low1),
+            words::entry64(r2, r3),
         ),
-        0x8400_0002 => return FunctionResult::Ok(Function::CpuOff),
-        0x8400_0003 => return core_calls::cpu_on(Mpidr::try_from_u32(a), entries::entry32(b, c)),
-        0xc400_0003 => return core_calls::cpu_on(Mpidr::try_from_u64(r1), entries::entry64(r2, r3)),
-        0x8400_0004 => return affinity_calls::affinity_info_32(b, Mpidr::try_from_u32(a)),
-        0xc400_0004 => return affinity_calls::affinity_info_64(b, Mpidr::try_from_u64(r1)),
-        0x8400_0005 => return core_calls::migrate(Mpidr::try_from_u32(a)),
-        0xc400_0005 => return core_calls::migrate(Mpidr::try_from_u64(r1)),
-        0x8400_0006 => return FunctionResult::Ok(Function::MigrateInfoType),
-        0x8400_0007 => return FunctionResult::Ok(Function::MigrateInfoUpCpu { is_32bit: true }),
-        0xc400_0007 => return FunctionResult::Ok(Function::MigrateInfoUpCpu { is_32bit: false }),
-        0x8400_0008 => return FunctionResult::Ok(Function::SystemOff),
-        0x8400_0009 => return FunctionResult::Ok(Function::SystemReset),
-        0x8400_000a => return calls::features(PsciFeature::try_from_u32(a)),
-        0x8400_000b => return FunctionResult::Ok(Function::CpuFreeze),
-        0x8400_000c => return FunctionResult::Ok(Function::CpuDefaultSuspend {
-            entry: entries::entry32(a, b),
-        }),
-        0xc400_000c => return FunctionResult::Ok(Function::CpuDefaultSuspend {
-            entry: entries::entry64(r1, r2),
-        }),
-        0x8400_000d => return core_calls::node_hw_state(Mpidr::try_from_u32(a), b),
-        0xc400_000d => return core_calls::node_hw_state(Mpidr::try_from_u64(r1), b),
-        0x8400_000e => return FunctionResult::Ok(Function::SystemSuspend {
-            entry: entries::entry32(a, b),
-        }),
-        0xc400_000e => return FunctionResult::Ok(Function::SystemSuspend {
-            entry: entries::entry64(r1, r2),
-        }),
-        0x8400_000f => return calls::set_suspend_mode(SuspendMode::try_from_u32(a)),
-        0x8400_0010 => return stat_calls::stat_residency(
-            Mpidr::try_from_u32(a),
-            PowerState::try_from_u32(b),
+        FunctionId::CPU_OFF => return FunctionResult::Ok(Function::CpuOff),
+        FunctionId::CPU_ON_32 => return core_calls::cpu_on(
+            Mpidr::try_from_u32(low1),
+            words::entry32(low2, low3),
         ),
-        0xc400_0010 => return stat_calls::stat_residency(
+        FunctionId::CPU_ON_64 => return core_calls::cpu_on(
             Mpidr::try_from_u64(r1),
-            PowerState::try_from_u32(b),
+            words::entry64(r2, r3),
         ),
-        0x8400_0011 => return stat_calls::stat_count(
-            Mpidr::try_from_u32(a),
-            PowerState::try_from_u32(b),
+        FunctionId::AFFINITY_INFO_32 => return affinity_calls::affinity_info_32(
+            low2,
+            Mpidr::try_from_u32(low1),
         ),
-        0xc400_0011 => return stat_calls::stat_count(
+        FunctionId::AFFINITY_INFO_64 => return affinity_calls::affinity_info_64(
+            low2,
             Mpidr::try_from_u64(r1),
-            PowerState::try_from_u32(b),
         ),
-        0x8400_0012 => return calls::system_reset2(ResetType::try_from_u32(a), Cookie::Cookie32(b)),
-        0xc400_0012 => return calls::system_reset2(
-            ResetType::try_from_u32(a),
+        FunctionId::MIGRATE_32 => return core_calls::migrate(Mpidr::try_from_u32(low1)),
+        FunctionId::MIGRATE_64 => return core_calls::migrate(Mpidr::try_from_u64(r1)),
+        FunctionId::MIGRATE_INFO_TYPE => return FunctionResult::Ok(Function::MigrateInfoType),
+        FunctionId::MIGRATE_INFO_UP_CPU_32 => return FunctionResult::Ok(Function::MigrateInfoUpCpu {
+            is_32bit: true,
+        }),
+        FunctionId::MIGRATE_INFO_UP_CPU_64 => return FunctionResult::Ok(Function::MigrateInfoUpCpu {
+            is_32bit: false,
+        }),
+        FunctionId::SYSTEM_OFF => return FunctionResult::Ok(Function::SystemOff),
+        FunctionId::SYSTEM_RESET => return FunctionResult::Ok(Function::SystemReset),
+        FunctionId::PSCI_FEATURES => return calls::features(PsciFeature::try_from_u32(low1)),
+        FunctionId::CPU_FREEZE => return FunctionResult::Ok(Function::CpuFreeze),
+        FunctionId::CPU_DEFAULT_SUSPEND_32 =>
+            return FunctionResult::Ok(Function::CpuDefaultSuspend {
+                entry: words::entry32(low1, low2),
+            }),
+        FunctionId::CPU_DEFAULT_SUSPEND_64 =>
+            return FunctionResult::Ok(Function::CpuDefaultSuspend {
+                entry: words::entry64(r1, r2),
+            }),
+        FunctionId::NODE_HW_STATE_32 => return core_calls::node_hw_state(
+            Mpidr::try_from_u32(low1),
+            low2,
+        ),
+        FunctionId::NODE_HW_STATE_64 => return core_calls::node_hw_state(
+            Mpidr::try_from_u64(r1),
+            low2,
+        ),
+        FunctionId::SYSTEM_SUSPEND_32 => return FunctionResult::Ok(Function::SystemSuspend {
+            entry: words::entry32(low1, low2),
+        }),
+        FunctionId::SYSTEM_SUSPEND_64 => return FunctionResult::Ok(Function::SystemSuspend {
+            entry: words::entry64(r1, r2),
+        }),
+        FunctionId::PSCI_SET_SUSPEND_MODE =>
+            return calls::set_suspend_mode(SuspendMode::try_from_u32(low1)),
+        FunctionId::PSCI_STAT_RESIDENCY_32 => return stat_calls::stat_residency(
+            Mpidr::try_from_u32(low1),
+            PowerState::try_from_u32(low2),
+        ),
+        FunctionId::PSCI_STAT_RESIDENCY_64 => return stat_calls::stat_residency(
+            Mpidr::try_from_u64(r1),
+            PowerState::try_from_u32(low2),
+        ),
+        FunctionId::PSCI_STAT_COUNT_32 => return stat_calls::stat_count(
+            Mpidr::try_from_u32(low1),
+            PowerState::try_from_u32(low2),
+        ),
+        FunctionId::PSCI_STAT_COUNT_64 => return stat_calls::stat_count(
+            Mpidr::try_from_u64(r1),
+            PowerState::try_from_u32(low2),
+        ),
+        FunctionId::SYSTEM_RESET2_32 => return calls::system_reset2(
+            ResetType::try_from_u32(low1),
+            Cookie::Cookie32(low2),
+        ),
+        FunctionId::SYSTEM_RESET2_64 => return calls::system_reset2(
+            ResetType::try_from_u32(low1),
             Cookie::Cookie64(r2),
         ),
-        0x8400_0013 => return calls::mem_protect(r1),
-        0x8400_0014 => return FunctionResult::Ok(Function::MemProtectCheckRange {
-            range: MemProtectRange::Range32 { base: a, length: b },
-        }),
-        0xc400_0014 => return FunctionResult::Ok(Function::MemProtectCheckRange {
-            range: MemProtectRange::Range64 {
-                base: r1,
-                length: r2,
-            },
-        }),
-        0x8400_0015 => return calls::system_off2(
-            SystemOff2Type::try_from_u32(a),
-            Cookie::Cookie32(b),
+        FunctionId::MEM_PROTECT => return calls::mem_protect(r1),
+        FunctionId::MEM_PROTECT_CHECK_RANGE_32 =>
+            return FunctionResult::Ok(Function::MemProtectCheckRange {
+                range: MemProtectRange::Range32 {
+                    base: low1,
+                    length: low2,
+                },
+            }),
+        FunctionId::MEM_PROTECT_CHECK_RANGE_64 =>
+            return FunctionResult::Ok(Function::MemProtectCheckRange {
+                range: MemProtectRange::Range64 {
+                    base: r1,
+                    length: r2,
+                },
+            }),
+        FunctionId::SYSTEM_OFF2_32 => return calls::system_off2(
+            SystemOff2Type::try_from_u32(low1),
+            Cookie::Cookie32(low2),
         ),
-        0xc400_0015 => return calls::system_off2(
-            SystemOff2Type::try_from_u32(a),
+        FunctionId::SYSTEM_OFF2_64 => return calls::system_off2(
+            SystemOff2Type::try_from_u32(low1),
             Cookie::Cookie64(r2),
         ),
         _ => return FunctionResult::Err(Error::UnrecognisedFunctionId(number)),

@@ -2,12 +2,16 @@
 ghost use mathlib.Core.Path.{_≡_};
 ghost use mathlib.Core.List.{_∷_, []};
 ghost use lib.ListN.{length};
+ghost use Rattle.refusals.specs.Lent.{left};
 ghost use Rattle.function_ids.specs.FunctionIds.{functionNumber};
-ghost use Rattle.encoding.specs.Encode.{encodeOf, left};
+ghost use Rattle.encode_definition.specs.Encode.{encodeOf};
 ghost use Rattle.encode.specs.Answers.{encodeAnswer};
-use arguments::Arguments;
-use arguments::ArgumentsResult;
-use arguments::argument_words;
+
+pub mod arguments;
+
+use crate::arguments::Arguments;
+use crate::arguments::ArgumentsResult;
+use crate::arguments::argument_words;
 use function::Function;
 use function_ids::FunctionId;
 use function_ids::FunctionIdResult;

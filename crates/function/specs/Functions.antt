@@ -3,7 +3,7 @@ use Rattle.refusals.specs.Answers.{Answer, accepted}
 use Rattle.refusals.specs.Errors.{refusal}
 use Rattle.function_ids.specs.declared.FunctionId.{FunctionId}
 use Rattle.function_ids.specs.declared.FunctionId.the-variants as id
-use Rattle.forms.specs.Forms.{inForm, entryForm, cookieForm, rangeForm, flagForm, mpidrForm, onNumber}
+use Rattle.function.specs.Forms.{inForm, entryForm, cookieForm, rangeForm, flagForm, mpidrForm, onNumber}
 use Rattle.function.specs.declared.Function.{Function}
 use Rattle.function.specs.declared.Function.the-variants.{Version, CpuSuspend, CpuOff, CpuOn, AffinityInfo, Migrate, MigrateInfoType, MigrateInfoUpCpu, SystemOff, SystemOff2, SystemReset, SystemReset2, MemProtect, MemProtectCheckRange, Features, CpuFreeze, CpuDefaultSuspend, NodeHwState, SystemSuspend, SetSuspendMode, StatResidency, StatCount}
 use Rattle.function.specs.declared.FunctionResult.{FunctionResult}

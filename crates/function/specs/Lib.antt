@@ -1,4 +1,2 @@
-pub mod AffinityInfo
-pub mod Arguments
-pub mod CoreStates
+pub mod Forms
 pub mod Functions

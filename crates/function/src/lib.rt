@@ -2,16 +2,19 @@
 ghost use mathlib.Core.Path.{_≡_};
 ghost use Rattle.function_ids.specs.FunctionIds.{functionIdAnswer};
 ghost use Rattle.function.specs.Functions.{functionIdOf};
+
+pub mod forms;
+
 use function_ids::FunctionId;
 use function_ids::FunctionIdResult;
-use mpidrs::Mpidr;
-use power_states::PowerState;
 use refusals::Error;
-use reset_types::ResetType;
 use words::Cookie;
 use words::EntryPoint;
 use words::MemProtectRange;
+use words::Mpidr;
+use words::PowerState;
 use words::PsciFeature;
+use words::ResetType;
 use words::SuspendMode;
 use words::SystemOff2Type;
 

@@ -1,2 +1,4 @@
+pub mod CallTable
+pub mod CallTableLaws
+pub mod FunctionIdLaws
 pub mod FunctionIds
-pub mod Inverse

@@ -1,3 +1,4 @@
+// The 35 function numbers: the enum FunctionId, its reader and its writer. The table of calls is a definition alone (specs/CallTable.antt).
 ghost use mathlib.Core.Path.{_≡_};
 ghost use Rattle.function_ids.specs.FunctionIds.{functionNumber, readFunctionId, functionIdAnswer};
 use refusals::Error;
@@ -41,95 +42,169 @@ pub enum FunctionId {
     SystemOff264,
 }
 
+// What reading a function number gives.
 pub enum FunctionIdResult {
     Ok(FunctionId),
     Err(Error),
 }
 
 impl FunctionId {
+    // The numbers by name, for the reader, the writer and decode: 0x84000000 + n is the 32-bit form, 0xc4000000 + n the 64-bit form.
+    pub const PSCI_VERSION: u32 = 0x8400_0000;
+
+    pub const CPU_SUSPEND_32: u32 = 0x8400_0001;
+
+    pub const CPU_SUSPEND_64: u32 = 0xc400_0001;
+
+    pub const CPU_OFF: u32 = 0x8400_0002;
+
+    pub const CPU_ON_32: u32 = 0x8400_0003;
+
+    pub const CPU_ON_64: u32 = 0xc400_0003;
+
+    pub const AFFINITY_INFO_32: u32 = 0x8400_0004;
+
+    pub const AFFINITY_INFO_64: u32 = 0xc400_0004;
+
+    pub const MIGRATE_32: u32 = 0x8400_0005;
+
+    pub const MIGRATE_64: u32 = 0xc400_0005;
+
+    pub const MIGRATE_INFO_TYPE: u32 = 0x8400_0006;
+
+    pub const MIGRATE_INFO_UP_CPU_32: u32 = 0x8400_0007;
+
+    pub const MIGRATE_INFO_UP_CPU_64: u32 = 0xc400_0007;
+
+    pub const SYSTEM_OFF: u32 = 0x8400_0008;
+
+    pub const SYSTEM_RESET: u32 = 0x8400_0009;
+
+    pub const PSCI_FEATURES: u32 = 0x8400_000a;
+
+    pub const CPU_FREEZE: u32 = 0x8400_000b;
+
+    pub const CPU_DEFAULT_SUSPEND_32: u32 = 0x8400_000c;
+
+    pub const CPU_DEFAULT_SUSPEND_64: u32 = 0xc400_000c;
+
+    pub const NODE_HW_STATE_32: u32 = 0x8400_000d;
+
+    pub const NODE_HW_STATE_64: u32 = 0xc400_000d;
+
+    pub const SYSTEM_SUSPEND_32: u32 = 0x8400_000e;
+
+    pub const SYSTEM_SUSPEND_64: u32 = 0xc400_000e;
+
+    pub const PSCI_SET_SUSPEND_MODE: u32 = 0x8400_000f;
+
+    pub const PSCI_STAT_RESIDENCY_32: u32 = 0x8400_0010;
+
+    pub const PSCI_STAT_RESIDENCY_64: u32 = 0xc400_0010;
+
+    pub const PSCI_STAT_COUNT_32: u32 = 0x8400_0011;
+
+    pub const PSCI_STAT_COUNT_64: u32 = 0xc400_0011;
+
+    pub const SYSTEM_RESET2_32: u32 = 0x8400_0012;
+
+    pub const SYSTEM_RESET2_64: u32 = 0xc400_0012;
+
+    pub const MEM_PROTECT: u32 = 0x8400_0013;
+
+    pub const MEM_PROTECT_CHECK_RANGE_32: u32 = 0x8400_0014;
+
+    pub const MEM_PROTECT_CHECK_RANGE_64: u32 = 0xc400_0014;
+
+    pub const SYSTEM_OFF2_32: u32 = 0x8400_0015;
+
+    pub const SYSTEM_OFF2_64: u32 = 0xc400_0015;
+
+    // The function of a number; a number that none of the 35 has is refused with 1, and carried.
     pub fn try_from_u32(value: u32) -> FunctionIdResult
         ensures { λ r. ⌜ functionIdAnswer r ≡ readFunctionId value ⌝ }
     {
         let function_id = match value {
-            0x8400_0000 => Self::PsciVersion,
-            0x8400_0001 => Self::CpuSuspend32,
-            0xc400_0001 => Self::CpuSuspend64,
-            0x8400_0002 => Self::CpuOff,
-            0x8400_0003 => Self::CpuOn32,
-            0xc400_0003 => Self::CpuOn64,
-            0x8400_0004 => Self::AffinityInfo32,
-            0xc400_0004 => Self::AffinityInfo64,
-            0x8400_0005 => Self::Migrate32,
-            0xc400_0005 => Self::Migrate64,
-            0x8400_0006 => Self::MigrateInfoType,
-            0x8400_0007 => Self::MigrateInfoUpCpu32,
-            0xc400_0007 => Self::MigrateInfoUpCpu64,
-            0x8400_0008 => Self::SystemOff,
-            0x8400_0009 => Self::SystemReset,
-            0x8400_000a => Self::PsciFeatures,
-            0x8400_000b => Self::CpuFreeze,
-            0x8400_000c => Self::CpuDefaultSuspend32,
-            0xc400_000c => Self::CpuDefaultSuspend64,
-            0x8400_000d => Self::NodeHwState32,
-            0xc400_000d => Self::NodeHwState64,
-            0x8400_000e => Self::SystemSuspend32,
-            0xc400_000e => Self::SystemSuspend64,
-            0x8400_000f => Self::PsciSetSuspendMode,
-            0x8400_0010 => Self::PsciStatResidency32,
-            0xc400_0010 => Self::PsciStatResidency64,
-            0x8400_0011 => Self::PsciStatCount32,
-            0xc400_0011 => Self::PsciStatCount64,
-            0x8400_0012 => Self::SystemReset232,
-            0xc400_0012 => Self::SystemReset264,
-            0x8400_0013 => Self::MemProtect,
-            0x8400_0014 => Self::MemProtectCheckRange32,
-            0xc400_0014 => Self::MemProtectCheckRange64,
-            0x8400_0015 => Self::SystemOff232,
-            0xc400_0015 => Self::SystemOff264,
+            Self::PSCI_VERSION => Self::PsciVersion,
+            Self::CPU_SUSPEND_32 => Self::CpuSuspend32,
+            Self::CPU_SUSPEND_64 => Self::CpuSuspend64,
+            Self::CPU_OFF => Self::CpuOff,
+            Self::CPU_ON_32 => Self::CpuOn32,
+            Self::CPU_ON_64 => Self::CpuOn64,
+            Self::AFFINITY_INFO_32 => Self::AffinityInfo32,
+            Self::AFFINITY_INFO_64 => Self::AffinityInfo64,
+            Self::MIGRATE_32 => Self::Migrate32,
+            Self::MIGRATE_64 => Self::Migrate64,
+            Self::MIGRATE_INFO_TYPE => Self::MigrateInfoType,
+            Self::MIGRATE_INFO_UP_CPU_32 => Self::MigrateInfoUpCpu32,
+            Self::MIGRATE_INFO_UP_CPU_64 => Self::MigrateInfoUpCpu64,
+            Self::SYSTEM_OFF => Self::SystemOff,
+            Self::SYSTEM_RESET => Self::SystemReset,
+            Self::PSCI_FEATURES => Self::PsciFeatures,
+            Self::CPU_FREEZE => Self::CpuFreeze,
+            Self::CPU_DEFAULT_SUSPEND_32 => Self::CpuDefaultSuspend32,
+            Self::CPU_DEFAULT_SUSPEND_64 => Self::CpuDefaultSuspend64,
+            Self::NODE_HW_STATE_32 => Self::NodeHwState32,
+            Self::NODE_HW_STATE_64 => Self::NodeHwState64,
+            Self::SYSTEM_SUSPEND_32 => Self::SystemSuspend32,
+            Self::SYSTEM_SUSPEND_64 => Self::SystemSuspend64,
+            Self::PSCI_SET_SUSPEND_MODE => Self::PsciSetSuspendMode,
+            Self::PSCI_STAT_RESIDENCY_32 => Self::PsciStatResidency32,
+            Self::PSCI_STAT_RESIDENCY_64 => Self::PsciStatResidency64,
+            Self::PSCI_STAT_COUNT_32 => Self::PsciStatCount32,
+            Self::PSCI_STAT_COUNT_64 => Self::PsciStatCount64,
+            Self::SYSTEM_RESET2_32 => Self::SystemReset232,
+            Self::SYSTEM_RESET2_64 => Self::SystemReset264,
+            Self::MEM_PROTECT => Self::MemProtect,
+            Self::MEM_PROTECT_CHECK_RANGE_32 => Self::MemProtectCheckRange32,
+            Self::MEM_PROTECT_CHECK_RANGE_64 => Self::MemProtectCheckRange64,
+            Self::SYSTEM_OFF2_32 => Self::SystemOff232,
+            Self::SYSTEM_OFF2_64 => Self::SystemOff264,
             _ => return FunctionIdResult::Err(Error::UnrecognisedFunctionId(value)),
         };
         FunctionIdResult::Ok(function_id)
     }
 
+    // The number of a function.
     pub fn to_u32(self) -> u32
         ensures { λ r. ⌜ r ≡ functionNumber self ⌝ }
     {
         match self {
-            Self::PsciVersion => 0x8400_0000,
-            Self::CpuSuspend32 => 0x8400_0001,
-            Self::CpuSuspend64 => 0xc400_0001,
-            Self::CpuOff => 0x8400_0002,
-            Self::CpuOn32 => 0x8400_0003,
-            Self::CpuOn64 => 0xc400_0003,
-            Self::AffinityInfo32 => 0x8400_0004,
-            Self::AffinityInfo64 => 0xc400_0004,
-            Self::Migrate32 => 0x8400_0005,
-            Self::Migrate64 => 0xc400_0005,
-            Self::MigrateInfoType => 0x8400_0006,
-            Self::MigrateInfoUpCpu32 => 0x8400_0007,
-            Self::MigrateInfoUpCpu64 => 0xc400_0007,
-            Self::SystemOff => 0x8400_0008,
-            Self::SystemReset => 0x8400_0009,
-            Self::PsciFeatures => 0x8400_000a,
-            Self::CpuFreeze => 0x8400_000b,
-            Self::CpuDefaultSuspend32 => 0x8400_000c,
-            Self::CpuDefaultSuspend64 => 0xc400_000c,
-            Self::NodeHwState32 => 0x8400_000d,
-            Self::NodeHwState64 => 0xc400_000d,
-            Self::SystemSuspend32 => 0x8400_000e,
-            Self::SystemSuspend64 => 0xc400_000e,
-            Self::PsciSetSuspendMode => 0x8400_000f,
-            Self::PsciStatResidency32 => 0x8400_0010,
-            Self::PsciStatResidency64 => 0xc400_0010,
-            Self::PsciStatCount32 => 0x8400_0011,
-            Self::PsciStatCount64 => 0xc400_0011,
-            Self::SystemReset232 => 0x8400_0012,
-            Self::SystemReset264 => 0xc400_0012,
-            Self::MemProtect => 0x8400_0013,
-            Self::MemProtectCheckRange32 => 0x8400_0014,
-            Self::MemProtectCheckRange64 => 0xc400_0014,
-            Self::SystemOff232 => 0x8400_0015,
-            Self::SystemOff264 => 0xc400_0015,
+            Self::PsciVersion => Self::PSCI_VERSION,
+            Self::CpuSuspend32 => Self::CPU_SUSPEND_32,
+            Self::CpuSuspend64 => Self::CPU_SUSPEND_64,
+            Self::CpuOff => Self::CPU_OFF,
+            Self::CpuOn32 => Self::CPU_ON_32,
+            Self::CpuOn64 => Self::CPU_ON_64,
+            Self::AffinityInfo32 => Self::AFFINITY_INFO_32,
+            Self::AffinityInfo64 => Self::AFFINITY_INFO_64,
+            Self::Migrate32 => Self::MIGRATE_32,
+            Self::Migrate64 => Self::MIGRATE_64,
+            Self::MigrateInfoType => Self::MIGRATE_INFO_TYPE,
+            Self::MigrateInfoUpCpu32 => Self::MIGRATE_INFO_UP_CPU_32,
+            Self::MigrateInfoUpCpu64 => Self::MIGRATE_INFO_UP_CPU_64,
+            Self::SystemOff => Self::SYSTEM_OFF,
+            Self::SystemReset => Self::SYSTEM_RESET,
+            Self::PsciFeatures => Self::PSCI_FEATURES,
+            Self::CpuFreeze => Self::CPU_FREEZE,
+            Self::CpuDefaultSuspend32 => Self::CPU_DEFAULT_SUSPEND_32,
+            Self::CpuDefaultSuspend64 => Self::CPU_DEFAULT_SUSPEND_64,
+            Self::NodeHwState32 => Self::NODE_HW_STATE_32,
+            Self::NodeHwState64 => Self::NODE_HW_STATE_64,
+            Self::SystemSuspend32 => Self::SYSTEM_SUSPEND_32,
+            Self::SystemSuspend64 => Self::SYSTEM_SUSPEND_64,
+            Self::PsciSetSuspendMode => Self::PSCI_SET_SUSPEND_MODE,
+            Self::PsciStatResidency32 => Self::PSCI_STAT_RESIDENCY_32,
+            Self::PsciStatResidency64 => Self::PSCI_STAT_RESIDENCY_64,
+            Self::PsciStatCount32 => Self::PSCI_STAT_COUNT_32,
+            Self::PsciStatCount64 => Self::PSCI_STAT_COUNT_64,
+            Self::SystemReset232 => Self::SYSTEM_RESET2_32,
+            Self::SystemReset264 => Self::SYSTEM_RESET2_64,
+            Self::MemProtect => Self::MEM_PROTECT,
+            Self::MemProtectCheckRange32 => Self::MEM_PROTECT_CHECK_RANGE_32,
+            Self::MemProtectCheckRange64 => Self::MEM_PROTECT_CHECK_RANGE_64,
+            Self::SystemOff232 => Self::SYSTEM_OFF2_32,
+            Self::SystemOff264 => Self::SYSTEM_OFF2_64,
         }
     }
 }

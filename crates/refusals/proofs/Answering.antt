@@ -20,6 +20,11 @@ pub came-through : {A B : Type 0} (f : A → B) (x : Answer A) (b : B) → throu
 came-through f (accepted a) b q = (a, (refl, cc))
 came-through f (refused number value) b q = not-accepted q
 
+-- what is turned twice is turned once by both
+pub through-twice : {A B C : Type 0} (f : A → B) (g : B → C) (x : Answer A) → through g (through f x) ≡ through (λ a. g (f a)) x
+through-twice f g (accepted a) = refl
+through-twice f g (refused number value) = refl
+
 -- what was accepted in two steps
 pub came-then : {A B : Type 0} (x : Answer A) (f : A → Answer B) (b : B) → andThen x f ≡ accepted b → (a : A) × ((x ≡ accepted a) × (f a ≡ accepted b))
 came-then (accepted a) f b q = (a, (refl, q))

@@ -6,8 +6,8 @@ use Prim.Native.Nat.{ℕ}
 use lib.Dec.{T}
 use lib.IntN.{pos}
 use borrow.Author.Tests.{eqb-true}
-use Rattle.bits.specs.Bits.{Field, get, put, keep, only}
-use Rattle.bits.proofs.Fields.{Fit, put-get, put-only}
+use Rattle.bits.specs.Bits.{Field, get, put, cutTo, only}
+use Rattle.bits.proofs.Fields.{FitFields, put-get, put-only}
 use Rattle.bits.proofs.Masks.{rising}
 use Rattle.bits.proofs.Picks.{if-true}
 use Rattle.refusals.specs.Answers.{Answer, accepted, refused}
@@ -20,18 +20,18 @@ module _ {A : Type 0} (fs : List Field) (make : List ℕ → A) (refusal : ℕ) 
   readFields word = cond (only fs word) (accepted (make (get fs word))) (refused refusal (pos word))
 
   -- a word put together from values that fit is read as what they make
-  pub read-put : (vs : List ℕ) → T (rising 0 fs) → Fit fs vs → readFields (put fs vs) ≡ accepted (make vs)
+  pub read-put : (vs : List ℕ) → T (rising 0 fs) → FitFields fs vs → readFields (put fs vs) ≡ accepted (make vs)
   read-put vs t fit = sym (if-true _ _ (put-only fs vs t fit) (ap (λ (us : List ℕ). accepted (make us)) (sym (put-get fs vs t fit))))
 
   -- it is enough to write what the fields of any word make
-  pub fields-write : (Word : ℕ → Type 0) (write : A → Answer ℕ) → ((word : ℕ) → write (make (get fs word)) ≡ accepted (keep fs word)) → WritesBack Word readFields write
+  pub fields-write : (Word : ℕ → Type 0) (write : A → Answer ℕ) → ((word : ℕ) → write (make (get fs word)) ≡ accepted (cutTo fs word)) → WritesBack Word readFields write
   fields-write Word write back word a h q =
       let o = passed (only fs word) (make (get fs word)) a refusal (pos word) q in
-      ap write (sym (o .1)) ∙ back word ∙ ap accepted (eqb-true (keep fs word) word (o .0))
+      ap write (sym (o .1)) ∙ back word ∙ ap accepted (eqb-true (cutTo fs word) word (o .0))
 
   -- what was written is put together from values that fit and make the value written
   abbrev pub Put : A → ℕ → Type 0
-  Put a word = (vs : List ℕ) × (Fit fs vs × ((put fs vs ≡ word) × (make vs ≡ a)))
+  Put a word = (vs : List ℕ) × (FitFields fs vs × ((put fs vs ≡ word) × (make vs ≡ a)))
 
   pub fields-read : (Value : A → Type 0) (write : A → Answer ℕ) → T (rising 0 fs) → ((a : A) (word : ℕ) → Value a → write a ≡ accepted word → Put a word) → ReadsBack Value write readFields
   fields-read Value write t written a word h q =

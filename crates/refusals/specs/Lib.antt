@@ -1,3 +1,5 @@
 pub mod Answers
 pub mod Errors
 pub mod Inverses
+pub mod Lent
+pub mod LentLaws

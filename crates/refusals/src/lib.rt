@@ -4,6 +4,7 @@ ghost use Rattle.bits.specs.Signs.{wordOf};
 ghost use Rattle.refusals.specs.Errors.{refusalNumber, refusalValue};
 use bits::signs;
 
+// What the codec turns back, with the value that it carries.
 pub enum Error {
     UnrecognisedFunctionId(u32), // 1
     InvalidPowerState(u32), // 2

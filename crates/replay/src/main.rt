@@ -1,87 +1,107 @@
-// Replays the Rust's answers: records of 16 big-endian words of 64 bits on standard input. Each question is asked anew, with every word
-// that its answer writes made wrong first, and the whole record is compared. Prints how many records it saw and how many differed; bytes
-// that are left over count as one record that differs.
-pub struct Tally {
-    pub seen: u64,
-    pub differed: u64,
-    pub more: bool,
+// Puts the codec to the answers of the Rust and to labelled cases, in blocks of 128 bytes on standard input. Plain code without promises: a
+// slip here shows as a difference.
+//
+// A block is a record of sixteen big-endian words (records.rt), and an answer of the Rust: it is compared (compared.rt), or, where its
+// operation is 2000, a sweep (sweeps.rt). But a block whose first byte is a printable character is a label: it is printed, and the record
+// behind it is asked as it stands and shown (shown.rt), not compared.
+//
+// The last line says how many records and sweeps were compared, and how many differed. A block cut short counts as one that differs, and so
+// does a record that a label lacks.
+mod calls;
+mod compared;
+mod operations;
+mod readers;
+mod records;
+mod shown;
+mod sweeps;
+mod values;
+mod writers;
+
+use big_endian::byte_at;
+use big_endian::word_at;
+use compared::agrees;
+use input::read_all;
+use shown::new_line;
+use shown::show_case;
+use shown::show_label;
+
+// The bytes of a block.
+const BLOCK: usize = 128;
+
+// What was compared so far; whether the last block was a label, or cut short; whether there may be more; whether a read failed.
+struct Tally {
+    seen: u64,
+    differed: u64,
+    labelled: bool,
+    cut: bool,
+    more: bool,
+    failed: bool,
 }
 
-// Turned in every word that an answer writes.
-const WRONG: u64 = 0xa5a5_5a5a_c3c3_3c3c;
-
-// Whether the answer to an operation writes the word at a place: a refusal writes its number and what it carries; decode and the readers
-// write nine words; encode writes four registers, every other operation one.
-fn is_written(op: u64, refused: bool, place: usize) -> bool {
-    if 14 <= place {
-        return true;
-    }
-    if refused || place == 0 {
-        return false;
-    }
-    if op == 1 || op == 2 || 48 <= op {
-        place == 10 || (op == 1 && 10 < place)
-    } else {
-        place < 10
-    }
+fn words_of(bytes: &[u8]) -> [u64; 16] {
+    [
+        word_at(bytes, 0),
+        word_at(bytes, 1),
+        word_at(bytes, 2),
+        word_at(bytes, 3),
+        word_at(bytes, 4),
+        word_at(bytes, 5),
+        word_at(bytes, 6),
+        word_at(bytes, 7),
+        word_at(bytes, 8),
+        word_at(bytes, 9),
+        word_at(bytes, 10),
+        word_at(bytes, 11),
+        word_at(bytes, 12),
+        word_at(bytes, 13),
+        word_at(bytes, 14),
+        word_at(bytes, 15),
+    ]
 }
 
-// The question of an answered record.
-fn question(w: [u64; 16]) -> [u64; 16] {
-    let op = w[0];
-    let refused = w[14] != 0;
-    let mut asked = w;
-    let mut i = 0;
-    while i < 16 {
-        if is_written(op, refused, i) {
-            asked[i] = w[i] ^ WRONG;
-        }
-        i += 1;
+fn counted(mut t: Tally, same: bool) -> Tally {
+    t.seen = std::num::wrapping_add_u64(t.seen, 1);
+    if !same {
+        t.differed = std::num::wrapping_add_u64(t.differed, 1);
     }
-    asked
+    t
 }
 
-fn is_same(a: [u64; 16], b: [u64; 16]) -> bool {
-    let mut turned = 0;
-    let mut i = 0;
-    while i < 16 {
-        turned = turned | (a[i] ^ b[i]);
-        i += 1;
+fn block(mut t: Tally, bytes: &[u8]) -> Tally {
+    if t.labelled {
+        t.labelled = false;
+        show_case(words_of(bytes));
+        return t;
     }
-    turned == 0
+    let first = byte_at(bytes, 0);
+    if 0x20 <= first && first <= 0x7e {
+        t.labelled = true;
+        show_label(bytes);
+        return t;
+    }
+    counted(t, agrees(words_of(bytes)))
 }
 
-fn counted(t: Tally, same: bool, more: bool) -> Tally {
-    let seen = std::num::wrapping_add_u64(t.seen, 1);
-    if same {
-        return Tally {
-            seen,
-            differed: t.differed,
-            more,
-        };
+fn blocks(mut t: Tally, bytes: &[u8]) -> Tally {
+    let mut at = 0;
+    while BLOCK <= bytes.len() - at {
+        let end = at + BLOCK;
+        t = block(t, &bytes[at..end]);
+        at = end;
     }
-    Tally {
-        seen,
-        differed: std::num::wrapping_add_u64(t.differed, 1),
-        more,
-    }
+    t.cut = at < bytes.len();
+    t
 }
 
+// Reads as many blocks as there is room for: fewer only at the end of the input, or where a read failed.
 fn step(t: Tally) -> Tally {
-    let mut buf = [0u8; 128];
-    let got = io::read_full(0, &mut buf);
-    if got == 0 {
-        return Tally {
-            seen: t.seen,
-            differed: t.differed,
-            more: false,
-        };
-    }
-    if got != 128 {
-        return counted(t, false, false);
-    }
-    let w = wire_bytes::words_of(&buf);
-    counted(t, is_same(wire_operations::answer(question(w)), w), true)
+    let mut buf = io::large_buffer();
+    let read = read_all(0, &mut buf);
+    let size = read.size;
+    let mut after = blocks(t, &buf[..size]);
+    after.failed = read.failed;
+    after.more = size == buf.len();
+    after
 }
 
 fn run() -> Tally {
@@ -89,7 +109,10 @@ fn run() -> Tally {
     let mut t = Tally {
         seen: 0,
         differed: 0,
+        labelled: false,
+        cut: false,
         more: true,
+        failed: false,
     };
     while turns > 0 && t.more {
         t = step(t);
@@ -98,10 +121,23 @@ fn run() -> Tally {
     t
 }
 
+fn show_counts(t: Tally) {
+    io::print_decimal(1, t.seen);
+    io::write_all(1, b" ");
+    io::print_decimal(1, t.differed);
+    new_line();
+}
+
 fn main() {
     let t = run();
-    io::print_decimal(1, t.seen);
-    io::write_all(1, &[b' ']);
-    io::print_decimal(1, t.differed);
-    io::write_all(1, &[b'\n']);
+    if t.labelled {
+        new_line();
+    }
+    if t.failed {
+        io::write_all(2, b"replay: standard input could not be read\n");
+    } else if t.labelled || t.cut {
+        show_counts(counted(t, false));
+    } else {
+        show_counts(t);
+    }
 }

@@ -2,15 +2,15 @@
 use mathlib.Core.Path.{refl}
 use Rattle.codes.specs.Codes.{readErrorCode, readErrorCode64}
 use Rattle.function_ids.specs.FunctionIds.{readFunctionId}
-use Rattle.call_table.specs.CallTable.{ruleOf}
-use Rattle.mpidrs.specs.Mpidrs.{readMpidr32, readMpidr64, writeMpidr64}
-use Rattle.versions.specs.Versions.{readVersion}
-use Rattle.power_states.specs.PowerStates.{readPowerState}
-use Rattle.reset_types.specs.ResetTypes.{readArchitecturalResetType, readResetType}
+use Rattle.function_ids.specs.CallTable.{ruleOf}
+use Rattle.words.specs.Mpidrs.{readMpidr32, readMpidr64, writeMpidr64}
+use Rattle.words.specs.Versions.{readVersion}
+use Rattle.words.specs.PowerStates.{readPowerState}
+use Rattle.words.specs.ResetTypes.{readArchitecturalResetType, readResetType}
 use Rattle.function.specs.Functions.{functionIdOf}
-use Rattle.decoding.specs.Decode.{callIn, decodeOf}
-use Rattle.function.specs.Arguments.{argumentsOf}
-use Rattle.encoding.specs.Encode.{wordsOf}
+use Rattle.decode_definition.specs.Decode.{callIn, decodeOf}
+use Rattle.encode_definition.specs.Arguments.{argumentsOf}
+use Rattle.encode_definition.specs.Encode.{wordsOf}
 use Rattle.roundtrip.specs.Cases.{Cases}
 
 pub cases : Cases

@@ -11,7 +11,9 @@ use lib.ListN.{length, getD}
 use lib.Pow.{pow-mono}
 use borrow.Author.Tests.{eqb-true, eqb-false, eq-eqb, ne-eqb}
 use Rattle.refusals.specs.Answers.{Answer, accepted}
-use Rattle.call_table.specs.CallTable.{Part, lowHalf, whole, partOf, Look, nothing, value, zeroOrNot, keep, numberIn, keptBy}
+use Rattle.refusals.specs.Lent.{left}
+use Rattle.refusals.proofs.Lending.{fronted-all}
+use Rattle.function_ids.specs.CallTable.{Part, lowHalf, whole, partOf, Look, nothing, value, zeroOrNot, keep, numberIn, keptBy}
 use Rattle.roundtrip.specs.Codec.{Codec, Registers, bit, width, InField, AgreeIn, Agree, Inside, wordsIn, OfOne, OfTwo, Demand3}
 use Rattle.roundtrip.proofs.Bits.{bits-mod, mod-bits}
 
@@ -136,9 +138,10 @@ module _ (c : Codec) (by : ByTable c) where
       three (suc (suc (suc (suc i)))) p q x y z = absurd (omega arith)
 
   module _ (r : List ℕ) (f : c .Call) (h : Registers r) (d : c .decode r ≡ accepted f) (run : List ℕ) (l : length run ≡ 4) where
+    -- the kept words are four, and so all that is left
     words-are : wordsIn c f run ≡ kept r
     unfolding kept
-    words-are = simp (by .writes r f run h l d)
+    words-are = ap (λ (a : Answer (List ℕ)). left a run) (by .writes r f run h l d) ∙ fronted-all (keptBy (c .look) r) run (sym l)
 
   positive : {i : ℕ} → 0 < suc i
   positive = omega arith

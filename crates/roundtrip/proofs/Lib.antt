@@ -2,4 +2,5 @@ pub mod Bits
 pub mod Cases
 pub mod Demand3
 pub mod Psci
+pub mod Recoding
 pub mod Rows

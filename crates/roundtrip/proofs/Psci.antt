@@ -10,17 +10,17 @@ use Rattle.refusals.specs.Answers.{Answer, accepted}
 use Rattle.refusals.proofs.Answering.{came-then}
 use Rattle.function_ids.specs.FunctionIds.{functionNumber, readFunctionId}
 use Rattle.function_ids.specs.declared.FunctionId.{FunctionId}
-use Rattle.function_ids.proofs.Inverse.{function-number}
-use Rattle.call_table.specs.CallTable.{lowHalf, whole, partOf, Look, nothing, value, zeroOrNot, ruleOf, lookAt, keep, numberIn, kept, valueIn}
+use Rattle.function_ids.proofs.FunctionIdLaws.{function-number}
+use Rattle.function_ids.specs.CallTable.{lowHalf, whole, partOf, Look, nothing, value, zeroOrNot, ruleOf, lookAt, keep, numberIn, kept, valueIn}
 use Rattle.function.specs.declared.Function.{Function}
-use Rattle.decoding.specs.Decode.{callOf, callIn, decodeOf}
-use Rattle.encoding.specs.Encode.{wordsOf, encodeOf}
+use Rattle.decode_definition.specs.Decode.{callOf, callIn, decodeOf}
+use Rattle.encode_definition.specs.Encode.{wordsOf, encodeOf}
 use Rattle.roundtrip.specs.Codec.{Registers}
 use Rattle.roundtrip.specs.Psci.{psci, Demand3Of01}
 use Rattle.roundtrip.proofs.Demand3.{small, demand3}
-use Rattle.roundtrip.proofs.Rows.{Writes, Fit, row-law}
+use Rattle.roundtrip.proofs.Rows.{WritesBackAs, FitsLook, row-law}
 
-fit : (k : Look) (x : ℕ) → x < 2 ^ 64 → Fit k (keep k x)
+fit : (k : Look) (x : ℕ) → x < 2 ^ 64 → FitsLook k (keep k x)
 fit nothing x h = refl
 fit (value lowHalf) x h = omega arith
 fit (value whole) x h = h
@@ -30,17 +30,17 @@ fit (zeroOrNot part) x h = small (eqb (partOf part x) 0)
 abbrev CallAt : FunctionId → ℕ → ℕ → ℕ → ℕ → Answer Function
 CallAt f n a b c = callOf f (valueIn (ruleOf n .fields) (n ∷ a ∷ b ∷ c ∷ []))
 
-number-law : (f : FunctionId) (n a b c : ℕ) → functionNumber f ≡ n → Fit (lookAt n 1) a → Fit (lookAt n 2) b → Fit (lookAt n 3) c →
-    Writes (CallAt f n a b c) (n ∷ a ∷ b ∷ c ∷ [])
+number-law : (f : FunctionId) (n a b c : ℕ) → functionNumber f ≡ n → FitsLook (lookAt n 1) a → FitsLook (lookAt n 2) b → FitsLook (lookAt n 3) c →
+    WritesBackAs (CallAt f n a b c) (n ∷ a ∷ b ∷ c ∷ [])
 number-law f n a b c e =
-    subst (λ (m : ℕ). Fit (lookAt m 1) a → Fit (lookAt m 2) b → Fit (lookAt m 3) c → Writes (CallAt f m a b c) (m ∷ a ∷ b ∷ c ∷ [])) e
+    subst (λ (m : ℕ). FitsLook (lookAt m 1) a → FitsLook (lookAt m 2) b → FitsLook (lookAt m 3) c → WritesBackAs (CallAt f m a b c) (m ∷ a ∷ b ∷ c ∷ [])) e
     (row-law f a b c)
 
 writes : (r : List ℕ) (f : Function) → Registers r → decodeOf r ≡ accepted f → wordsOf f ≡ accepted (kept r)
 unfolding decodeOf callIn
 writes r f h d =
     let o = came-then (readFunctionId (numberIn r)) (λ id. callOf id (valueIn (ruleOf (numberIn r) .fields) (kept r))) f d in
-    subst (λ (x : Answer Function). Writes x (kept r)) (o .1 .1)
+    subst (λ (x : Answer Function). WritesBackAs x (kept r)) (o .1 .1)
     (number-law (o .0) (numberIn r) _ _ _ (function-number (numberIn r) (o .0) (o .1 .0)) (fit (lookAt (numberIn r) 1) (getD r 1 0) (h .fits 1))
     (fit (lookAt (numberIn r) 2) (getD r 2 0) (h .fits 2)) (fit (lookAt (numberIn r) 3) (getD r 3 0) (h .fits 3)))
 

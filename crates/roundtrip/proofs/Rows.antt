@@ -11,54 +11,54 @@ use Rattle.refusals.specs.Inverses.{WritesBack, always, Word32}
 use Rattle.function_ids.specs.FunctionIds.{Form, narrow, wide, functionNumber}
 use Rattle.function_ids.specs.declared.FunctionId.{FunctionId}
 use Rattle.function_ids.specs.declared.FunctionId.the-variants as id
-use Rattle.call_table.specs.CallTable.{lowHalf, whole, Look, nothing, value, zeroOrNot, ruleOf, lookAt, valueIn}
-use Rattle.mpidrs.specs.Mpidrs.{readMpidr32, readMpidr64, writeMpidr64}
-use Rattle.mpidrs.specs.declared.Mpidr.{Mpidr}
-use Rattle.mpidrs.proofs.MpidrWords.{mpidr32-wide, mpidr64-wide}
-use Rattle.power_states.specs.PowerStates.{readPowerState, writePowerState}
-use Rattle.power_states.specs.declared.PowerState.{PowerState}
-use Rattle.power_states.proofs.Inverses.{power-state-laws}
-use Rattle.reset_types.proofs.Inverses.{reset-type-laws}
-use Rattle.words.proofs.Inverses.{word-laws}
-use Rattle.forms.specs.Forms.{mpidrForm}
+use Rattle.function_ids.specs.CallTable.{lowHalf, whole, Look, nothing, value, zeroOrNot, ruleOf, lookAt, valueIn}
+use Rattle.words.specs.Mpidrs.{readMpidr32, readMpidr64, writeMpidr64}
+use Rattle.words.specs.declared.mpidrs.Mpidr.{Mpidr}
+use Rattle.words.proofs.MpidrWords.{mpidr32-wide, mpidr64-wide}
+use Rattle.words.specs.PowerStates.{readPowerState, writePowerState}
+use Rattle.words.specs.declared.power_states.PowerState.{PowerState}
+use Rattle.words.proofs.PowerStateLaws.{power-state-laws}
+use Rattle.words.proofs.ResetTypeLaws.{reset-type-laws}
+use Rattle.words.proofs.WordLaws.{word-laws}
+use Rattle.function.specs.Forms.{mpidrForm}
 use Rattle.function.specs.Functions.{functionIdOf}
 use Rattle.function.specs.declared.Function.{Function}
 use Rattle.function.specs.declared.Function.the-variants.{AffinityInfo}
-use Rattle.function.specs.AffinityInfo.{affinityInfo}
-use Rattle.function.specs.CoreStates.{ofCoreState}
-use Rattle.decoding.specs.Decode.{callOf}
-use Rattle.function.specs.Arguments.{argumentsOf}
-use Rattle.encoding.specs.Encode.{wordsOf}
+use Rattle.decode_definition.specs.RefusalOrders.{affinityInfo}
+use Rattle.decode_definition.specs.RefusalOrders.{ofCoreState}
+use Rattle.decode_definition.specs.Decode.{callOf}
+use Rattle.encode_definition.specs.Arguments.{argumentsOf}
+use Rattle.encode_definition.specs.Encode.{wordsOf}
 
 -- what is accepted is written as these words
-abbrev pub Writes : Answer Function → List ℕ → Type 0
-Writes (accepted f) words = wordsOf f ≡ accepted words
-Writes (refused number carried) words = Unit {0}
+abbrev pub WritesBackAs : Answer Function → List ℕ → Type 0
+WritesBackAs (accepted f) words = wordsOf f ≡ accepted words
+WritesBackAs (refused number carried) words = Unit {0}
 
 -- the values that can be kept of a register
-abbrev pub Fit : Look → ℕ → Type 0
-Fit nothing x = x ≡ 0
-Fit (value lowHalf) x = x < 2 ^ 32
-Fit (value whole) x = x < 2 ^ 64
-Fit (zeroOrNot part) x = x < 2
+abbrev pub FitsLook : Look → ℕ → Type 0
+FitsLook nothing x = x ≡ 0
+FitsLook (value lowHalf) x = x < 2 ^ 32
+FitsLook (value whole) x = x < 2 ^ 64
+FitsLook (zeroOrNot part) x = x < 2
 
 -- ---- a field that is read and written back
 
 module _ {A : Type 0} (call : A → Function) (words : List ℕ) where
-  answered : (x : Answer A) → ((a : A) → x ≡ accepted a → wordsOf (call a) ≡ accepted words) → Writes (through call x) words
+  answered : (x : Answer A) → ((a : A) → x ≡ accepted a → wordsOf (call a) ≡ accepted words) → WritesBackAs (through call x) words
   answered (accepted a) f = f a refl
   answered (refused number carried) f = tt
 
   -- a word whose writer never refuses
   number-row : (read : ℕ → Answer A) (number : A → ℕ) → WritesBack Word32 read (always number) → (a : ℕ) → a < 2 ^ 32 →
-      ((x : A) → number x ≡ a → wordsOf (call x) ≡ accepted words) → Writes (through call (read a)) words
+      ((x : A) → number x ≡ a → wordsOf (call x) ≡ accepted words) → WritesBackAs (through call (read a)) words
   number-row read number back a h f = answered (read a) (λ x e. f x (same (back a x h e)))
     where
       same : {m n : ℕ} → _≡_ {A = Answer ℕ} (accepted m) (accepted n) → m ≡ n
       same e = cc
 
 state-row : (call : PowerState → Function) (words : List ℕ) (a : ℕ) → a < 2 ^ 32 →
-    ((s : PowerState) → writePowerState s ≡ accepted a → wordsOf (call s) ≡ accepted words) → Writes (through call (readPowerState a)) words
+    ((s : PowerState) → writePowerState s ≡ accepted a → wordsOf (call s) ≡ accepted words) → WritesBackAs (through call (readPowerState a)) words
 state-row call words a h f = answered call words (readPowerState a) (λ s e. f s (power-state-laws .power-state-writes-back a s h e))
 
 -- a core address in either form
@@ -73,25 +73,25 @@ mpidr-back wide a m e = let o = mpidr64-wide a m e in (ap mpidrForm (o .0 .1), o
 
 module _ (form : Form) where
   mpidr-row : (call : Mpidr → Function) (words : List ℕ) (a : ℕ) →
-      ((m : Mpidr) → mpidrForm (m .aff3) ≡ form → writeMpidr64 m ≡ a → wordsOf (call m) ≡ accepted words) → Writes (through call (mpidrAt form a)) words
+      ((m : Mpidr) → mpidrForm (m .aff3) ≡ form → writeMpidr64 m ≡ a → wordsOf (call m) ≡ accepted words) → WritesBackAs (through call (mpidrAt form a)) words
   mpidr-row call words a f = answered call words (mpidrAt form a) (λ m e. let o = mpidr-back form a m e in f m (o .0) (o .1))
 
   level-row : (most a b : ℕ) (words : List ℕ) →
       ((m : Mpidr) → mpidrForm (m .aff3) ≡ form → writeMpidr64 m ≡ a → wordsOf (AffinityInfo m b) ≡ accepted words) →
-      Writes (affinityInfo most b (mpidrAt form a)) words
+      WritesBackAs (affinityInfo most b (mpidrAt form a)) words
   level-row most a b words f = tested (leb b most)
     where
-      tested : (t : Bool) → Writes (cond t (through (λ m. AffinityInfo m b) (mpidrAt form a)) (refused 5 (pos b))) words
+      tested : (t : Bool) → WritesBackAs (cond t (through (λ m. AffinityInfo m b) (mpidrAt form a)) (refused 5 (pos b))) words
       tested true = mpidr-row (λ m. AffinityInfo m b) words a f
       tested false = tt
 
   core-state-row : (call : Mpidr → PowerState → Function) (words : List ℕ) (a b : ℕ) → b < 2 ^ 32 →
       ((m : Mpidr) (s : PowerState) → mpidrForm (m .aff3) ≡ form → writeMpidr64 m ≡ a → writePowerState s ≡ accepted b → wordsOf (call m s) ≡ accepted words) →
-      Writes (ofCoreState call (mpidrAt form a) (readPowerState b)) words
+      WritesBackAs (ofCoreState call (mpidrAt form a) (readPowerState b)) words
   core-state-row call words a b h f = met (mpidrAt form a) (λ m e. mpidr-back form a m e)
     where
       met : (x : Answer Mpidr) → ((m : Mpidr) → x ≡ accepted m → (mpidrForm (m .aff3) ≡ form) × (writeMpidr64 m ≡ a)) →
-          Writes (ofCoreState call x (readPowerState b)) words
+          WritesBackAs (ofCoreState call x (readPowerState b)) words
       met (accepted m) g = let o = g m refl in state-row (call m) words b h (λ s e. f m s (o .0) (o .1) e)
       met (refused number carried) g = tt
 
@@ -104,14 +104,14 @@ row f a b c = functionNumber f ∷ a ∷ b ∷ c ∷ []
 zeros : {n a b c : ℕ} → a ≡ 0 → b ≡ 0 → c ≡ 0 → _≡_ {A = Answer (List ℕ)} (accepted (n ∷ 0 ∷ 0 ∷ 0 ∷ [])) (accepted (n ∷ a ∷ b ∷ c ∷ []))
 zeros p q s = simp (p, q, s)
 
-protect-row : (a : ℕ) → a < 2 → Writes (callOf id.MemProtect (valueIn (ruleOf (functionNumber id.MemProtect) .fields) (row id.MemProtect a 0 0))) (row id.MemProtect a 0 0)
+protect-row : (a : ℕ) → a < 2 → WritesBackAs (callOf id.MemProtect (valueIn (ruleOf (functionNumber id.MemProtect) .fields) (row id.MemProtect a 0 0))) (row id.MemProtect a 0 0)
 unfolding ruleOf wordsOf functionIdOf argumentsOf
 protect-row zero h = refl
 protect-row (suc zero) h = refl
 protect-row (suc (suc a)) h = absurd (omega arith)
 
-pub row-law : (f : FunctionId) (a b c : ℕ) → Fit (lookAt (functionNumber f) 1) a → Fit (lookAt (functionNumber f) 2) b → Fit (lookAt (functionNumber f) 3) c →
-    Writes (callOf f (valueIn (ruleOf (functionNumber f) .fields) (row f a b c))) (row f a b c)
+pub row-law : (f : FunctionId) (a b c : ℕ) → FitsLook (lookAt (functionNumber f) 1) a → FitsLook (lookAt (functionNumber f) 2) b → FitsLook (lookAt (functionNumber f) 3) c →
+    WritesBackAs (callOf f (valueIn (ruleOf (functionNumber f) .fields) (row f a b c))) (row f a b c)
 unfolding ruleOf wordsOf functionIdOf argumentsOf
 row-law id.PsciVersion a b c p q s = zeros p q s
 row-law id.CpuSuspend32 a b c p q s = state-row _ _ a p (λ x e. simp e)

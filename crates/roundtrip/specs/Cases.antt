@@ -8,51 +8,51 @@ use Rattle.bits.specs.Signs.{signed, wordOf}
 use Rattle.refusals.specs.Answers.{accepted, refused}
 use Rattle.codes.specs.Codes.{codeNumber, readErrorCode, readErrorCode64}
 use Rattle.codes.specs.declared.ErrorCode.the-variants.{InvalidAddress}
-use Rattle.mpidrs.specs.Mpidrs.{mpidrOf}
-use Rattle.mpidrs.specs.declared.Aff3.the-variants.{Some}
-use Rattle.versions.specs.Versions.{versionOf, readVersion}
-use Rattle.power_states.specs.PowerStates.{readPowerState}
-use Rattle.power_states.specs.declared.PowerState.the-variants.{PowerDown}
-use Rattle.reset_types.specs.ResetTypes.{readResetType}
-use Rattle.reset_types.specs.declared.ArchitecturalResetType.the-variants.{SystemWarmReset}
-use Rattle.reset_types.specs.declared.ResetType.the-variants.{Architectural, VendorSpecific}
+use Rattle.words.specs.Mpidrs.{mpidrOf}
+use Rattle.words.specs.declared.mpidrs.Aff3.the-variants.{Some}
+use Rattle.words.specs.Versions.{versionOf, readVersion}
+use Rattle.words.specs.PowerStates.{readPowerState}
+use Rattle.words.specs.declared.power_states.PowerState.the-variants.{PowerDown}
+use Rattle.words.specs.ResetTypes.{readResetType}
+use Rattle.words.specs.declared.reset_types.ArchitecturalResetType.the-variants.{SystemWarmReset}
+use Rattle.words.specs.declared.reset_types.ResetType.the-variants.{Architectural, VendorSpecific}
 use Rattle.words.specs.declared.entry_points.EntryPoint.the-variants.{Entry64}
 use Rattle.function.specs.declared.Function.{Function}
 use Rattle.function.specs.declared.Function.the-variants.{Version, CpuOff, CpuOn, AffinityInfo, MemProtect}
-use Rattle.decoding.specs.Decode.{decodeOf}
-use Rattle.encoding.specs.Encode.{wordsOf}
+use Rattle.decode_definition.specs.Decode.{decodeOf}
+use Rattle.encode_definition.specs.Encode.{wordsOf}
 
 -- a set is decoded as f
-abbrev pub Reads : List ℕ → Function → Type 0
-Reads regs f = decodeOf regs ≡ accepted f
+abbrev pub DecodesTo : List ℕ → Function → Type 0
+DecodesTo regs f = decodeOf regs ≡ accepted f
 
 -- a set is refused by a number, and a value is carried
 abbrev pub Refuses : List ℕ → ℕ → ℕ → Type 0
 Refuses regs number value = decodeOf regs ≡ refused number (pos value)
 
 -- the four words of f
-abbrev pub Writes : Function → List ℕ → Type 0
-Writes f words = wordsOf f ≡ accepted words
+abbrev pub EncodesTo : Function → List ℕ → Type 0
+EncodesTo f words = wordsOf f ≡ accepted words
 
 abbrev pub onM3 : Function
 onM3 = CpuOn (mpidrOf 4 3 2 (Some 1)) (Entry64 0x80000 9)
 
 pub record Cases : Type 0 where
   -- M1 (0x84000000, 5, 6, 7): version; writes (0x84000000, 0, 0, 0)
-  pub m1-reads : Reads (0x84000000 ∷ 5 ∷ 6 ∷ 7 ∷ []) Version
-  pub m1-writes : Writes Version (0x84000000 ∷ 0 ∷ 0 ∷ 0 ∷ [])
+  pub m1-reads : DecodesTo (0x84000000 ∷ 5 ∷ 6 ∷ 7 ∷ []) Version
+  pub m1-writes : EncodesTo Version (0x84000000 ∷ 0 ∷ 0 ∷ 0 ∷ [])
   -- M2 r0 = 0xffffffff84000002: CPU off, whatever the other registers
-  pub m2 : (x y z : ℕ) → Reads (0xffffffff84000002 ∷ x ∷ y ∷ z ∷ []) CpuOff
+  pub m2 : (x y z : ℕ) → DecodesTo (0xffffffff84000002 ∷ x ∷ y ∷ z ∷ []) CpuOff
   -- M3 (0xc4000003, 0x100020304, 0x80000, 9): affinities 3 to 0 are 1, 2, 3, 4; writes itself
-  pub m3-reads : Reads (0xc4000003 ∷ 0x100020304 ∷ 0x80000 ∷ 9 ∷ []) onM3
-  pub m3-writes : Writes onM3 (0xc4000003 ∷ 0x100020304 ∷ 0x80000 ∷ 9 ∷ [])
+  pub m3-reads : DecodesTo (0xc4000003 ∷ 0x100020304 ∷ 0x80000 ∷ 9 ∷ []) onM3
+  pub m3-writes : EncodesTo onM3 (0xc4000003 ∷ 0x100020304 ∷ 0x80000 ∷ 9 ∷ [])
   -- M4 0x84000003, r1 0x01000000: refusal 3
   pub m4 : (y z : ℕ) → Refuses (0x84000003 ∷ 0x01000000 ∷ y ∷ z ∷ []) 3 0x01000000
   -- M5 same r1 under 0xc4000003: 4
   pub m5 : (y z : ℕ) → Refuses (0xc4000003 ∷ 0x01000000 ∷ y ∷ z ∷ []) 4 0x01000000
   -- M6 0x84000004, r1 0xff000000, r2 3: refusal 5, not 3. Under 0xc4000004 with r1 0, level 3 is accepted, 4 not
   pub m6-level : (z : ℕ) → Refuses (0x84000004 ∷ 0xff000000 ∷ 3 ∷ z ∷ []) 5 3
-  pub m6-three : (z : ℕ) → Reads (0xc4000004 ∷ 0 ∷ 3 ∷ z ∷ []) (AffinityInfo (mpidrOf 0 0 0 (Some 0)) 3)
+  pub m6-three : (z : ℕ) → DecodesTo (0xc4000004 ∷ 0 ∷ 3 ∷ z ∷ []) (AffinityInfo (mpidrOf 0 0 0 (Some 0)) 3)
   pub m6-four : (z : ℕ) → Refuses (0xc4000004 ∷ 0 ∷ 4 ∷ z ∷ []) 5 4
   -- M7 power state 0x4fffffff: power down, ID 0x0fffffff; 0x50000000: 2
   pub m7-down : readPowerState 0x4fffffff ≡ accepted (PowerDown 0x0fffffff)
@@ -62,8 +62,8 @@ pub record Cases : Type 0 where
   pub m8-other : readResetType 1 ≡ refused 7 (pos 1)
   pub m8-vendor : readResetType 0x80000001 ≡ accepted (VendorSpecific 1)
   -- M9 0x84000013, r1 0x100000000: enabled; writes 1
-  pub m9-reads : (y z : ℕ) → Reads (0x84000013 ∷ 0x100000000 ∷ y ∷ z ∷ []) (MemProtect true)
-  pub m9-writes : Writes (MemProtect true) (0x84000013 ∷ 1 ∷ 0 ∷ 0 ∷ [])
+  pub m9-reads : (y z : ℕ) → DecodesTo (0x84000013 ∷ 0x100000000 ∷ y ∷ z ∷ []) (MemProtect true)
+  pub m9-writes : EncodesTo (MemProtect true) (0x84000013 ∷ 1 ∷ 0 ∷ 0 ∷ [])
   -- M10 error 0xfffffff7: −9 from 32 bits; from 64 bits refusal 10, 4294967287
   pub m10-32 : readErrorCode (signed 32 0xfffffff7) ≡ accepted InvalidAddress
   pub m10-64 : readErrorCode64 (signed 64 0xfffffff7) ≡ refused 10 (pos 4294967287)

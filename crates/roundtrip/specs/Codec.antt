@@ -5,8 +5,8 @@ use mathlib.Core.Logic.{_⊎_}
 use Prim.Native.Nat.{ℕ, _/_, _%_, _^_, _<_}
 use lib.ListN.{length, getD}
 use Rattle.refusals.specs.Answers.{Answer, accepted}
-use Rattle.call_table.specs.CallTable.{Part, lowHalf, whole, partOf, Look, nothing, value, zeroOrNot, numberIn}
-use Rattle.encoding.specs.Encode.{left}
+use Rattle.refusals.specs.Lent.{left}
+use Rattle.function_ids.specs.CallTable.{Part, lowHalf, whole, partOf, Look, nothing, value, zeroOrNot, numberIn}
 
 -- A codec: its typed calls, what decoding gives for four registers, what encoding gives for a call and a lent run, and what is looked at
 -- in register 1, 2 or 3 under a function number: its listed field there.

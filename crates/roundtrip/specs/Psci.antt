@@ -1,8 +1,8 @@
 -- Document 01's codec, and demand 3 of it.
-use Rattle.call_table.specs.CallTable.{lookAt}
+use Rattle.function_ids.specs.CallTable.{lookAt}
 use Rattle.function.specs.declared.Function.{Function}
-use Rattle.decoding.specs.Decode.{decodeOf}
-use Rattle.encoding.specs.Encode.{encodeOf}
+use Rattle.decode_definition.specs.Decode.{decodeOf}
+use Rattle.encode_definition.specs.Encode.{encodeOf}
 use Rattle.roundtrip.specs.Codec.{Codec, Demand3}
 
 abbrev pub psci : Codec

@@ -1,2 +1,10 @@
-pub mod Inverses
+pub mod MpidrLaws
+pub mod MpidrWords
 pub mod NumberedWords
+pub mod PowerStateLaws
+pub mod PowerStateWords
+pub mod ResetTypeLaws
+pub mod ResetTypeWords
+pub mod VersionLaws
+pub mod VersionWords
+pub mod WordLaws

@@ -9,7 +9,7 @@ use Rattle.refusals.proofs.Answering.{not-accepted, at-once-or-through}
 use Rattle.refusals.proofs.Choosing.{numbered-writes, numbered-reads}
 use Rattle.refusals.proofs.Inverting.{writes-always, reads-always}
 use Rattle.function_ids.specs.FunctionIds.{functionNumber, readFunctionId}
-use Rattle.function_ids.proofs.Inverse.{function-number, function-back}
+use Rattle.function_ids.proofs.FunctionIdLaws.{function-number, function-back}
 use Rattle.function_ids.specs.declared.FunctionId.{FunctionId}
 use Rattle.words.specs.HwStates.{hwStateNumber, hwStates, readHwState}
 use Rattle.words.specs.PsciFeatures.{featureNumber, readFeature}

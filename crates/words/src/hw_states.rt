@@ -9,12 +9,14 @@ pub enum HwState {
     Standby,
 }
 
+// What reading a hardware state gives.
 pub enum HwStateResult {
     Ok(HwState),
     Err(Error),
 }
 
 impl HwState {
+    // The state of 0, 1 or 2; any other word is refused with 12, and carried.
     pub fn try_from_u32(value: u32) -> HwStateResult
         ensures { λ r. ⌜ hwStateAnswer r ≡ readHwState value ⌝ }
     {
@@ -26,6 +28,7 @@ impl HwState {
         }
     }
 
+    // The state's word, 0 to 2.
     pub fn to_u32(self) -> u32
         ensures { λ r. ⌜ r ≡ hwStateNumber self ⌝ }
     {

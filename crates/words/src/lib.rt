@@ -1,20 +1,43 @@
-// The other single words of a power call, each with its reader and its writer: document 01, "Single words".
+// The single words of a power call, a module for each type, with its reader, its writer, its constants and its laws: document 01, "Single
+// words" and "The typed call". Function numbers and codes have crates of their own.
 mod cookies;
 mod entry_points;
+mod flags;
 mod hw_states;
 mod mem_protect_ranges;
+mod mpidrs;
+mod power_states;
 mod psci_features;
+mod reset_types;
 mod suspend_modes;
 mod system_off2_types;
+mod versions;
 
 pub use cookies::Cookie;
+pub use cookies::cookie_word;
 pub use entry_points::EntryPoint;
+pub use entry_points::entry32;
+pub use entry_points::entry64;
+pub use flags::flag_word;
 pub use hw_states::HwState;
 pub use hw_states::HwStateResult;
 pub use mem_protect_ranges::MemProtectRange;
+pub use mem_protect_ranges::base_word;
+pub use mem_protect_ranges::length_word;
+pub use mpidrs::Aff3;
+pub use mpidrs::Mpidr;
+pub use mpidrs::MpidrResult;
+pub use power_states::PowerState;
+pub use power_states::PowerStateResult;
 pub use psci_features::PsciFeature;
 pub use psci_features::PsciFeatureResult;
+pub use reset_types::ArchitecturalResetType;
+pub use reset_types::ArchitecturalResetTypeResult;
+pub use reset_types::ResetType;
+pub use reset_types::ResetTypeResult;
 pub use suspend_modes::SuspendMode;
 pub use suspend_modes::SuspendModeResult;
 pub use system_off2_types::SystemOff2Type;
 pub use system_off2_types::SystemOff2TypeResult;
+pub use versions::Version;
+pub use versions::VersionResult;

@@ -10,6 +10,7 @@ pub enum PsciFeature {
     SmcccVersion,
 }
 
+// What reading a feature gives.
 pub enum PsciFeatureResult {
     Ok(PsciFeature),
     Err(Error),
@@ -18,6 +19,7 @@ pub enum PsciFeatureResult {
 impl PsciFeature {
     const SMCCC_VERSION: u32 = 0x8000_0000;
 
+    // The SMCCC version of 0x80000000, the function of one of the 35 numbers; any other word is refused with 1, and carried.
     pub fn try_from_u32(value: u32) -> PsciFeatureResult
         ensures { λ r. ⌜ featureAnswer r ≡ readFeature value ⌝ }
     {
@@ -32,6 +34,7 @@ impl PsciFeature {
         }
     }
 
+    // The feature's number: the inverse of its reader.
     pub fn to_u32(self) -> u32
         ensures { λ r. ⌜ r ≡ featureNumber self ⌝ }
     {

@@ -8,12 +8,14 @@ pub enum SuspendMode {
     OsInitiated,
 }
 
+// What reading a suspend mode gives.
 pub enum SuspendModeResult {
     Ok(SuspendMode),
     Err(Error),
 }
 
 impl SuspendMode {
+    // The mode of 0 or 1; any other word is refused with 8, and carried.
     pub fn try_from_u32(value: u32) -> SuspendModeResult
         ensures { λ r. ⌜ suspendModeAnswer r ≡ readSuspendMode value ⌝ }
     {
@@ -24,6 +26,7 @@ impl SuspendMode {
         }
     }
 
+    // The mode's word, 0 or 1.
     pub fn to_u32(self) -> u32
         ensures { λ r. ⌜ r ≡ suspendModeNumber self ⌝ }
     {

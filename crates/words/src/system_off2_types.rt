@@ -7,12 +7,14 @@ pub enum SystemOff2Type {
     HibernateOff,
 }
 
+// What reading an off type gives.
 pub enum SystemOff2TypeResult {
     Ok(SystemOff2Type),
     Err(Error),
 }
 
 impl SystemOff2Type {
+    // The type of 1; any other word is refused with 6, and carried.
     pub fn try_from_u32(value: u32) -> SystemOff2TypeResult
         ensures { λ r. ⌜ systemOff2Answer r ≡ readSystemOff2Type value ⌝ }
     {
@@ -22,6 +24,7 @@ impl SystemOff2Type {
         }
     }
 
+    // The type's word, 1.
     pub fn to_u32(self) -> u32
         ensures { λ r. ⌜ r ≡ systemOff2Number self ⌝ }
     {

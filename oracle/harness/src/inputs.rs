@@ -324,9 +324,10 @@ pub fn words_random(seed: u64, count: u64, ask: &mut dyn FnMut(Record)) {
     }
 }
 
-/// Records that ask for nothing: operations and tags that there aren't, and each word of a value's turned in one bit.
+/// Records that ask for nothing: operations and tags that there aren't, and each word of a value's turned in one bit. An operation's first
+/// byte is not from 0x20 to 0x7e, which makes a label of the record; its neighbours do not.
 pub fn malformed(ask: &mut dyn FnMut(Record)) {
-    let none = [3, 15, 34, 47, 66, 1 << 32, u64::MAX];
+    let none = [3, 15, 34, 47, 66, 1 << 32, 0x1fff_ffff_ffff_ffff, 0x7f00_0000_0000_0000, u64::MAX];
     for op in none {
         ask(Record { op, call: odd(op), regs: [op; 4], ..Record::default() });
     }

@@ -1,18 +1,18 @@
 //! The Rust codec, unchanged, as the judge. A `Record` is a question with its answer: an operation, a call or a single value as
-//! nine words, four registers, a refusal and what it carries. `oracle` answers it from the Rust; the crate `wire` answers the same.
+//! nine words, four registers, a refusal and what it carries. `oracle` answers it from the Rust; the program `replay` answers the same.
 pub mod flat;
 pub mod inputs;
 pub mod line;
 #[cfg(feature = "rattle")]
 pub mod rattle;
 pub mod sheet;
+pub mod sweep;
 
 use arm_psci::*;
 use flat::*;
 use std::cell::Cell;
 use std::panic::{catch_unwind, set_hook};
 
-#[repr(C)]
 #[derive(Clone, Copy, Debug, Default, Eq, PartialEq)]
 pub struct Record {
     pub op: u64,
@@ -88,7 +88,7 @@ pub mod op {
     pub const ENTRY_CONTEXT: u64 = 65;
 }
 
-/// The wire's own refusals: no such operation, no such tag, a part that has no room in its place.
+/// A record's own refusals, beside document 01's: no such operation, no such tag, a part that has no room in its place.
 pub const NO_OPERATION: u64 = 1001;
 pub const NO_TAG: u64 = 1002;
 pub const NO_PART: u64 = 1003;
@@ -262,7 +262,7 @@ fn carried_by_panic(number: u64, q: &Record) -> u64 {
     }
 }
 
-/// The call that a record asks with, or the wire's refusal of its words.
+/// The call that a record asks with, or the record's own refusal of its words.
 fn asked(words: &Flat) -> Result<Function, (u64, u64)> {
     if words[0] > 21 {
         return Err((NO_TAG, words[0]));

@@ -1,6 +1,5 @@
-//! The exported functions of the crates `wire_operations`, `wire` and `wire_line`. Nothing checks these declarations against the Rattle source
-//! but the comparison itself.
-use crate::Record;
+//! The exported functions of the crates `call_exports` and `line_exports`. Nothing checks these declarations against the Rattle source but
+//! the comparison itself.
 use crate::line::Written;
 
 /// A refusal's number and what it carries, or twice 0.
@@ -12,8 +11,6 @@ pub struct Refusal {
 }
 
 unsafe extern "C" {
-    /// A struct of sixteen words by value, both ways.
-    pub safe fn psci_answer(question: Record) -> Record;
     // `&[T; n]` and `&mut [T; n]` are thin pointers.
     pub safe fn psci_decode(regs: &[u64; 4], out: &mut [u64; 9]) -> Refusal;
     pub safe fn psci_encode(call: &[u64; 9], out: &mut [u64; 4]) -> Refusal;

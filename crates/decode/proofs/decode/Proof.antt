@@ -3,8 +3,8 @@
 use mathlib.Core.Path.{refl}
 use borrow.Author.Needs.{needs}
 use Rattle.function_ids.specs.declared.FunctionId.the-variants as id
-use Rattle.decoding.proofs.Laws.{unknown-is}
-use Rattle.decoding.proofs.Rows.{decoded}
+use Rattle.decode_definition.proofs.Laws.{unknown-is}
+use Rattle.decode_definition.proofs.Rows.{decoded}
 use Rattle.decode.proofs.decode.Statement.{statement}
 use Rattle.decode.proofs.decode.Tie as tie
 

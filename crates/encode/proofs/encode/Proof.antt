@@ -4,8 +4,8 @@ use mathlib.Core.Path.{sym, ap, _∙_}
 use borrow.Author.Needs.{needs}
 use Rattle.refusals.specs.Answers.{accepted}
 use Rattle.function_ids.specs.FunctionIds.{functionIdAnswer}
-use Rattle.arguments.specs.Answers.{argumentsAnswer}
-use Rattle.encoding.proofs.Laws.{turned-back, written, wrong-length, no-number, no-arguments, all-words}
+use Rattle.encode.specs.ArgumentAnswers.{argumentsAnswer}
+use Rattle.encode_definition.proofs.Laws.{turned-back, written, wrong-length, no-number, no-arguments, all-words}
 use Rattle.encode.proofs.encode.Statement.{statement}
 use Rattle.encode.proofs.encode.Tie as tie
 

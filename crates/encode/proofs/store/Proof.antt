@@ -1,13 +1,12 @@
 -- `encode::store` meets its contract.
 -- Assumes nothing.
-use mathlib.Core.Path.{_∙_}
 use borrow.Author.Needs.{needs}
-use Rattle.encode.proofs.Stores.{four, of-four}
+use Rattle.refusals.proofs.Lending.{stored-all}
 use Rattle.encode.proofs.store.Statement.{statement}
 use Rattle.encode.proofs.store.Tie as tie
 
 returns : tie.Need-returns
-returns c = four (c .args .out .now) _ _ _ _ (c .pre) ∙ of-four (c .args .t1) (search needs)
+returns c = stored-all 4 (c .args .t1) (c .args .out .now) (search needs) (c .pre)
 
 pub store-spec : {M : Type 1} → statement M
 store-spec =

@@ -1,23 +1,55 @@
 //! `stream PLAN [SEED COUNT] | replay`: the Rust's answers to a plan's questions, as records of 128 bytes on standard output.
-//! The number of records and the tally of refusals go to standard error.
-use harness::{inputs, oracle, quiet_panics};
+//! `stream sweep numbers|READER [BITS] | replay`: 2^BITS words, by default 2^32, to decode as function numbers or to the reader with that
+//! operation, as blocks with a digest. The number of records or blocks and the tally of refusals go to standard error.
+use harness::{Record, inputs, op, oracle, quiet_panics, sweep};
 use std::io::Write;
+
+#[derive(Default)]
+struct Tally {
+    seen: [u64; 17],
+    other: u64,
+}
+
+impl Tally {
+    #[inline]
+    fn note(&mut self, answer: &Record) {
+        match self.seen.get_mut(answer.refusal as usize) {
+            Some(n) => *n += 1,
+            None => self.other += 1,
+        }
+    }
+}
+
+fn plan(name: &str, seed: u64, count: u64, tally: &mut Tally, out: &mut impl Write) -> String {
+    let mut records = 0u64;
+    inputs::plan(name, seed, count, &mut |q| {
+        let a = oracle(&q);
+        records += 1;
+        tally.note(&a);
+        out.write_all(&a.bytes()).unwrap();
+    });
+    format!("{records} records")
+}
+
+fn swept(what: &str, bits: u32, tally: &mut Tally, out: &mut impl Write) -> String {
+    let op = if what == "numbers" { op::DECODE } else { what.parse().expect("numbers or a reader") };
+    let blocks = sweep::blocks(op, bits);
+    for block in &blocks {
+        out.write_all(&block.answered(&mut |a| tally.note(a)).bytes()).unwrap();
+    }
+    format!("{} blocks of at most {} words, {}", blocks.len(), blocks[0].count, sweep::described(op, bits))
+}
 
 fn main() {
     let args: Vec<String> = std::env::args().skip(1).collect();
-    let number = |i: usize| args.get(i).map_or(0, |a| a.parse().expect("a number"));
+    let number = |i: usize, other: u64| args.get(i).map_or(other, |a| a.parse().expect("a number"));
     quiet_panics();
     let mut out = std::io::BufWriter::with_capacity(1 << 16, std::io::stdout().lock());
-    let (mut count, mut seen, mut other) = (0u64, [0u64; 17], 0u64);
-    inputs::plan(&args[0], number(1), number(2), &mut |q| {
-        let a = oracle(&q);
-        count += 1;
-        match seen.get_mut(a.refusal as usize) {
-            Some(n) => *n += 1,
-            None => other += 1,
-        }
-        out.write_all(&a.bytes()).unwrap();
-    });
+    let mut tally = Tally::default();
+    let told = match args[0].as_str() {
+        "sweep" => swept(&args[1], number(2, 32) as u32, &mut tally, &mut out),
+        name => plan(name, number(1, 0), number(2, 0), &mut tally, &mut out),
+    };
     out.flush().unwrap();
-    eprintln!("{count} records; accepted {}, refusals 1 to 16 {:?}, of the wire {other}", seen[0], &seen[1..]);
+    eprintln!("{told}; accepted {}, refusals 1 to 16 {:?}, a record's own {}", tally.seen[0], &tally.seen[1..], tally.other);
 }

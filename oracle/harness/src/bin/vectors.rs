@@ -1,6 +1,7 @@
 //! `vectors SEED COUNT > FILE`: the recorded list. COUNT records, a third each of decode, of encode and function number, and of
-//! words; half of each third from the boundary plan, thinned evenly, half random; then two of each refusal 1 to 16 if fewer came.
-use harness::{Record, inputs, oracle, quiet_panics};
+//! words; half of each third from the boundary plan, thinned evenly, half random; then two of each refusal 1 to 16 if fewer came. One
+//! more record, in the middle, is planted wrong: a program that says of the list that no record differs has not compared it.
+use harness::{Record, inputs, op, oracle, quiet_panics};
 use std::io::Write;
 
 /// `count` of what a plan asks, evenly spread.
@@ -15,6 +16,17 @@ fn thinned(count: u64, name: &str) -> Vec<Record> {
         at += 1;
     });
     out
+}
+
+/// Puts the first encoded call past the middle a second time, with the highest bit of its last register turned; says where.
+fn plant(answers: &mut Vec<Record>) -> usize {
+    let middle = answers.len() / 2;
+    let is_encoded = |a: &Record| a.op == op::ENCODE && a.refusal == 0;
+    let at = middle + 1 + answers[middle..].iter().position(is_encoded).expect("an encoded call");
+    let mut wrong = answers[at - 1];
+    wrong.regs[3] ^= 1 << 63;
+    answers.insert(at, wrong);
+    at
 }
 
 fn main() {
@@ -39,7 +51,8 @@ fn main() {
             }
         });
     }
+    let planted = plant(&mut answers);
     let mut out = std::io::BufWriter::new(std::io::stdout().lock());
     answers.iter().for_each(|a| out.write_all(&a.bytes()).unwrap());
-    eprintln!("{} records; accepted {}, refusals 1 to 16 {:?}", answers.len(), seen[0], &seen[1..]);
+    eprintln!("{} records, that at {planted} planted wrong; of the others accepted {}, refusals 1 to 16 {:?}", answers.len(), seen[0], &seen[1..]);
 }

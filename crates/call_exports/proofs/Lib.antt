@@ -1,0 +1,3 @@
+pub mod CallAskedLaws
+pub mod ExportLaws
+pub mod PickLaws

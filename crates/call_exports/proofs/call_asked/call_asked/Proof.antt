@@ -1,0 +1,37 @@
+-- `call_asked::call_asked` meets its contract.
+-- Assumes nothing.
+use mathlib.Core.Path.{sym, ap, _∙_}
+use borrow.Author.Needs.{needs}
+use borrow.Author.Tests.{eq-eqb, ne-eqb}
+use Rattle.call_exports.specs.PlainWords.{differing}
+use Rattle.call_exports.specs.CallAsked.{askedAnswer}
+use Rattle.call_exports.proofs.CallAskedLaws.{asked-call, asked-wrong, asked-refused}
+use Rattle.call_exports.proofs.call_asked.call_asked.Statement.{statement}
+use Rattle.call_exports.proofs.call_asked.call_asked.Tie as tie
+
+returns : tie.Need-returns
+returns c =
+    asked-call _
+    (sym (c .before .before .before .before .before .before .call-at .ensures) ∙ ap askedAnswer (c .before .before .before .before .function .given .1))
+    (eq-eqb _ _ (sym (c .before .differing-bits .ensures ∙ ap (differing _) (c .before .before .call-words .ensures)) ∙ c .if1 .taken))
+
+returns-2 : tie.Need-returns-2
+returns-2 c =
+    asked-wrong _
+    (sym (c .before .before .before .before .before .before .call-at .ensures) ∙ ap askedAnswer (c .before .before .before .before .function .given .1))
+    (ne-eqb _ _ (λ q. c .if1 .left (c .before .differing-bits .ensures ∙ ap (differing _) (c .before .before .call-words .ensures) ∙ q)))
+
+pub call-asked-spec : {M : Type 1} → statement M
+call-asked-spec =
+    tie.close
+    (tie.spec
+    (λ c κs. search needs)
+    (λ c. search needs)
+    (λ c κs. search needs)
+    (λ c κs. search needs)
+    (λ c. search needs)
+    (λ c. search needs)
+    returns
+    returns-2
+    (λ c. asked-refused _ (sym (c .before .before .before .call-at .ensures) ∙ ap askedAnswer (c .before .tag .given .1)))
+    (λ c. asked-refused _ (sym (c .before .before .call-at .ensures) ∙ ap askedAnswer (c .enum-told .given .1))))

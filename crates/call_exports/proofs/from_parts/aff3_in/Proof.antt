@@ -1,0 +1,14 @@
+-- `from_parts::aff3_in` meets its contract.
+-- Assumes nothing.
+use borrow.Author.Needs.{needs}
+use borrow.Author.Tests.{eq-eqb, ne-eqb}
+use Rattle.call_exports.proofs.from_parts.aff3_in.Statement.{statement}
+use Rattle.call_exports.proofs.from_parts.aff3_in.Tie as tie
+
+pub aff3-in-spec : {M : Type 1} → statement M
+aff3-in-spec =
+    tie.close
+    (tie.spec
+    (λ c κs. search needs)
+    (λ c. simp (eq-eqb _ _ (c .if1 .taken)))
+    (λ c. simp (c .low8 .ensures, ne-eqb _ _ (c .before .if1 .left))))

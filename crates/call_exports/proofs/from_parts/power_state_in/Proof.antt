@@ -1,0 +1,15 @@
+-- `from_parts::power_state_in` meets its contract.
+-- Assumes nothing.
+use borrow.Author.Needs.{needs}
+use borrow.Author.Tests.{eq-eqb, ne-eqb}
+use Rattle.call_exports.proofs.from_parts.power_state_in.Statement.{statement}
+use Rattle.call_exports.proofs.from_parts.power_state_in.Tie as tie
+
+pub power-state-in-spec : {M : Type 1} → statement M
+power-state-in-spec =
+    tie.close
+    (tie.spec
+    (λ c κs. search needs)
+    (λ c κs. search needs)
+    (λ c. simp (c .low32 .ensures, eq-eqb _ _ (c .before .if1 .taken)))
+    (λ c. simp (c .low322 .ensures, ne-eqb _ _ (c .before .if1 .left))))

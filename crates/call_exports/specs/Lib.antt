@@ -1,0 +1,7 @@
+pub mod CallAsked
+pub mod CallWords
+pub mod Exports
+pub mod FromParts
+pub mod Parts
+pub mod Places
+pub mod PlainWords

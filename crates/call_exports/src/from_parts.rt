@@ -1,0 +1,118 @@
+// The value that parts stand for, each part cut to its place.
+ghost use mathlib.Core.Path.{_≡_};
+ghost use Rattle.call_exports.specs.PlainWords.{low, byte};
+ghost use Rattle.call_exports.specs.FromParts.{either, mpidrIn, powerStateIn, entryIn, cookieIn, rangeIn, resetTypeIn, featureIn, modeIn};
+use crate::places::function_at;
+use crate::plain_words::low8;
+use crate::plain_words::low32;
+use words::Aff3;
+use words::ArchitecturalResetType;
+use words::Cookie;
+use words::EntryPoint;
+use words::MemProtectRange;
+use words::Mpidr;
+use words::PowerState;
+use words::PsciFeature;
+use words::ResetType;
+use words::SuspendMode;
+
+fn aff3_in(present: u64, part: u64) -> Aff3
+    ensures { λ r. ⌜ r ≡ either present Aff3.None (Aff3.Some (byte part)) ⌝ }
+{
+    if present == 0 {
+        Aff3::None
+    } else {
+        Aff3::Some(low8(part))
+    }
+}
+
+pub fn mpidr_in(c: [u64; 9]) -> Mpidr
+    ensures { λ r. ⌜ r ≡ mpidrIn c ⌝ }
+{
+    let aff3 = aff3_in(c[1], c[2]);
+    Mpidr {
+        aff0: low8(c[5]),
+        aff1: low8(c[4]),
+        aff2: low8(c[3]),
+        aff3,
+    }
+}
+
+pub fn power_state_in(down: u64, id: u64) -> PowerState
+    ensures { λ r. ⌜ r ≡ powerStateIn down id ⌝ }
+{
+    if down == 0 {
+        PowerState::StandbyOrRetention(low32(id))
+    } else {
+        PowerState::PowerDown(low32(id))
+    }
+}
+
+pub fn entry_in(form: u64, address: u64, context: u64) -> EntryPoint
+    ensures { λ r. ⌜ r ≡ entryIn form address context ⌝ }
+{
+    if form == 0 {
+        EntryPoint::Entry32 {
+            entry_point_address: low32(address),
+            context_id: low32(context),
+        }
+    } else {
+        EntryPoint::Entry64 {
+            entry_point_address: address,
+            context_id: context,
+        }
+    }
+}
+
+pub fn cookie_in(form: u64, word: u64) -> Cookie
+    ensures { λ r. ⌜ r ≡ cookieIn form word ⌝ }
+{
+    if form == 0 {
+        Cookie::Cookie32(low32(word))
+    } else {
+        Cookie::Cookie64(word)
+    }
+}
+
+pub fn range_in(form: u64, base: u64, length: u64) -> MemProtectRange
+    ensures { λ r. ⌜ r ≡ rangeIn form base length ⌝ }
+{
+    if form == 0 {
+        MemProtectRange::Range32 {
+            base: low32(base),
+            length: low32(length),
+        }
+    } else {
+        MemProtectRange::Range64 { base, length }
+    }
+}
+
+pub fn reset_type_in(vendor: u64, word: u64) -> ResetType
+    ensures { λ r. ⌜ r ≡ resetTypeIn vendor word ⌝ }
+{
+    if vendor == 0 {
+        ResetType::Architectural(ArchitecturalResetType::SystemWarmReset)
+    } else {
+        ResetType::VendorSpecific(low32(word))
+    }
+}
+
+pub fn feature_in(smccc: u64, place: u64) -> PsciFeature
+    ensures { λ r. ⌜ r ≡ featureIn smccc place ⌝ }
+{
+    if smccc == 0 {
+        PsciFeature::PsciFunction(function_at(place))
+    } else {
+        PsciFeature::SmcccVersion
+    }
+}
+
+pub fn mode_in(place: u64) -> SuspendMode
+    ensures { λ r. ⌜ r ≡ modeIn place ⌝ }
+{
+    if place == 0 {
+        SuspendMode::PlatformCoordinated
+    } else {
+        SuspendMode::OsInitiated
+    }
+}

@@ -1,0 +1,114 @@
+// The codec over plain words, for the comparison with the Rust, the benchmark and callers in C.
+ghost use mathlib.Core.Path.{_≡_};
+ghost use lib.IntN.{pos};
+ghost use lib.ListN.{length};
+ghost use Rattle.refusals.specs.Answers.{through};
+ghost use Rattle.refusals.specs.Errors.{refusalNumber, refusalValue};
+ghost use Rattle.refusals.specs.Lent.{left};
+ghost use Rattle.decode_definition.specs.Decode.{decodeOf};
+ghost use Rattle.roundtrip.specs.Recode.{recodeOf};
+ghost use Rattle.call_exports.specs.CallWords.{callWords};
+ghost use Rattle.call_exports.specs.Exports.{refusalIs, refusalIn, encodeWords};
+
+pub mod call_asked;
+pub mod call_words;
+pub mod from_parts;
+pub mod parts;
+pub mod places;
+pub mod plain_words;
+
+use crate::call_asked::Asked;
+use crate::call_asked::call_asked;
+use crate::call_words::call_words;
+use encode::EncodeResult;
+use function::FunctionResult;
+use refusals::Error;
+
+// A refusal's number and what it carries, or twice 0.
+#[repr(C)]
+pub struct Refusal {
+    pub number: u64,
+    pub carried: u64,
+}
+
+fn accepted_words() -> Refusal
+    ensures { λ r. ⌜ r ≡ refusalIs 0 (pos 0) ⌝ }
+{
+    Refusal {
+        number: 0,
+        carried: 0,
+    }
+}
+
+fn refusal_of(error: Error) -> Refusal
+    ensures { λ r. ⌜ r ≡ refusalIs (refusalNumber error) (refusalValue error) ⌝ }
+{
+    Refusal {
+        number: error.number(),
+        carried: error.value(),
+    }
+}
+
+fn store(words: [u64; 9], out: &mut [u64])
+    requires { ⌜ length (now out) ≡ 9 ⌝ }
+    ensures { λ r. ⌜ now (out .exit) ≡ words ⌝ }
+{
+    out[0] = words[0];
+    out[1] = words[1];
+    out[2] = words[2];
+    out[3] = words[3];
+    out[4] = words[4];
+    out[5] = words[5];
+    out[6] = words[6];
+    out[7] = words[7];
+    out[8] = words[8];
+}
+
+// The nine words of the call that four registers make. A refusal leaves the lent words as they were.
+#[no_mangle]
+pub extern "C" fn psci_decode(regs: &[u64; 4], out: &mut [u64; 9]) -> Refusal
+    ensures { λ r. ⌜ (r ≡ refusalIn (decodeOf (now (regs .entry)))) × (now (out .exit) ≡ left (through callWords (decodeOf (now (regs .entry)))) (now (out .entry))) ⌝ }
+{
+    let r = *regs;
+    match decode::decode(r) {
+        FunctionResult::Ok(function) => {
+            store(call_words(function), out);
+            accepted_words()
+        }
+        FunctionResult::Err(error) => refusal_of(error),
+    }
+}
+
+// The four words of the call that nine words stand for. A refusal leaves the lent words as they were.
+#[no_mangle]
+pub extern "C" fn psci_encode(call: &[u64; 9], out: &mut [u64; 4]) -> Refusal
+    ensures { λ r. ⌜ (r ≡ refusalIn (encodeWords (now (call .entry)) (now (out .entry)))) × (now (out .exit) ≡ left (encodeWords (now (call .entry)) (now (out .entry))) (now (out .entry))) ⌝ }
+{
+    let c = *call;
+    match call_asked(c) {
+        Asked::Call(function) => match encode::encode(function, out) {
+            EncodeResult::Ok => accepted_words(),
+            EncodeResult::Err(error) => refusal_of(error),
+        },
+        Asked::UnknownTag(tag) => Refusal {
+            number: 1002,
+            carried: tag,
+        },
+        Asked::WrongPart => Refusal {
+            number: 1003,
+            carried: 0,
+        },
+    }
+}
+
+// Decodes four registers and encodes the call. A refusal leaves the lent words as they were.
+#[no_mangle]
+pub extern "C" fn psci_recode(regs: &[u64; 4], out: &mut [u64; 4]) -> Refusal
+    ensures { λ r. ⌜ (r ≡ refusalIn (recodeOf (now (regs .entry)) (now (out .entry)))) × (now (out .exit) ≡ left (recodeOf (now (regs .entry)) (now (out .entry))) (now (out .entry))) ⌝ }
+{
+    let r = *regs;
+    match roundtrip::recode(r, out) {
+        EncodeResult::Ok => accepted_words(),
+        EncodeResult::Err(error) => refusal_of(error),
+    }
+}

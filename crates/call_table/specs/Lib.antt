@@ -1,2 +1,0 @@
-pub mod CallTable
-pub mod Numbers

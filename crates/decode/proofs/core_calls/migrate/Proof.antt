@@ -1,0 +1,14 @@
+-- `core_calls::migrate` meets its contract.
+-- Assumes nothing.
+use borrow.Author.Needs.{needs}
+use Rattle.decode.proofs.core_calls.migrate.Statement.{statement}
+use Rattle.decode.proofs.core_calls.migrate.Tie as tie
+
+pub migrate-spec : {M : Type 1} → statement M
+migrate-spec =
+    tie.close
+    (tie.spec
+    (λ c. search needs)
+    (λ c. search needs)
+    (λ c. simp (c .before .mpidr .given .1))
+    (λ c. simp (c .before .mpidr2 .given .1)))

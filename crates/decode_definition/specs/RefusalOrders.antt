@@ -1,0 +1,18 @@
+-- Document 01, "What is turned back": the order of refusals in the calls of which two fields may be refused.
+use mathlib.Core.Bool.{cond}
+use Prim.Native.Nat.{ℕ}
+use lib.Dec.{leb}
+use lib.IntN.{pos}
+use Rattle.refusals.specs.Answers.{Answer, refused, through, andThen}
+use Rattle.words.specs.declared.mpidrs.Mpidr.{Mpidr}
+use Rattle.words.specs.declared.power_states.PowerState.{PowerState}
+use Rattle.function.specs.declared.Function.{Function}
+use Rattle.function.specs.declared.Function.the-variants.{AffinityInfo}
+
+-- refusal 5: affinity info's level, before its MPIDR
+abbrev pub affinityInfo : ℕ → ℕ → Answer Mpidr → Answer Function
+affinityInfo most lowest m = cond (leb lowest most) (through (λ x. AffinityInfo x lowest) m) (refused 5 (pos lowest))
+
+-- two fields by register: the MPIDR is refused before the power state
+abbrev pub ofCoreState : (Mpidr → PowerState → Function) → Answer Mpidr → Answer PowerState → Answer Function
+ofCoreState call m s = andThen m (λ x. through (call x) s)

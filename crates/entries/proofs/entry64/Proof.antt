@@ -1,7 +1,0 @@
--- `entries::entry64` meets its contract. Assumes nothing.
-use mathlib.Core.Path.{refl}
-use Rattle.entries.proofs.entry64.Statement.{statement}
-use Rattle.entries.proofs.entry64.Tie as tie
-
-pub entry64-spec : {M : Type 1} → statement M
-entry64-spec = tie.close (tie.spec (λ c. refl))

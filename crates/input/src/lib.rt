@@ -1,0 +1,45 @@
+// Reading of input that tells its end from a read that failed.
+ghost use Prim.Native.Nat.{_≤_};
+ghost use lib.ListN.{length};
+
+// How many bytes were read, and whether a read failed after them.
+pub struct Input {
+    pub size: usize,
+    pub failed: bool,
+}
+
+// One read to the lent bytes from a place on: the place after what it put there, and whether it failed.
+fn read_from(fd: i32, buf: &mut [u8], from: usize) -> Input
+    requires { ⌜ from ≤ length (now buf) ⌝ }
+    ensures { λ r. ⌜ (from ≤ r .size) × (r .size ≤ length (now (buf .entry))) ⌝ }
+{
+    let rest = &mut buf[from..];
+    let got = libc::read(fd, rest);
+    let more = io::count(got, rest);
+    Input {
+        size: from + more,
+        failed: got < 0,
+    }
+}
+
+// Reads to the front of the lent bytes until they are full, the input ends or a read fails. A read that a signal interrupts counts as one
+// that failed. Which bytes stand there afterwards no contract can say; those past the size may have changed too.
+pub fn read_all(fd: i32, buf: &mut [u8]) -> Input
+    ensures { λ r. ⌜ r .size ≤ length (now (buf .exit)) ⌝ }
+{
+    let mut size = 0;
+    while size < buf.len() {
+        let next = read_from(fd, buf, size);
+        if next.failed {
+            return next;
+        }
+        if next.size == size {
+            break;
+        }
+        size = next.size;
+    }
+    Input {
+        size,
+        failed: false,
+    }
+}

@@ -1,3 +1,0 @@
-pub mod Lines
-mod Decoding
-mod Examples

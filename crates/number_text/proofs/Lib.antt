@@ -1,0 +1,3 @@
+mod Glyphs
+pub mod DecimalLaws
+pub mod Laws

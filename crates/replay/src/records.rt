@@ -1,0 +1,98 @@
+// A record is sixteen words: the operation, a call or a single value as nine words, four registers, a refusal's number and what it carries.
+// An answer changes only what it gives; every other word stays as it was asked.
+use call_exports::parts::wide32;
+use call_exports::plain_words::differing_bits;
+use refusals::Error;
+use refusals::WordResult;
+
+// Refusals of the record itself, beside document 01's: an operation that there is not, a tag that no call has, and a part that has no room
+// in its place.
+pub(crate) const UNKNOWN_OPERATION: u64 = 1001;
+
+pub(crate) const UNKNOWN_TAG: u64 = 1002;
+
+pub(crate) const WRONG_PART: u64 = 1003;
+
+// Turned in a word that an answer must write, so that it cannot be right by chance.
+pub(crate) const WRONG: u64 = 0xa5a5_5a5a_c3c3_3c3c;
+
+pub(crate) fn nine_in(w: [u64; 16]) -> [u64; 9] {
+    [w[1], w[2], w[3], w[4], w[5], w[6], w[7], w[8], w[9]]
+}
+
+pub(crate) fn regs_in(w: [u64; 16]) -> [u64; 4] {
+    [w[10], w[11], w[12], w[13]]
+}
+
+pub(crate) fn turned_back(w: [u64; 16], number: u64, carried: u64) -> [u64; 16] {
+    let mut answer = w;
+    answer[14] = number;
+    answer[15] = carried;
+    answer
+}
+
+pub(crate) fn refused(w: [u64; 16], error: Error) -> [u64; 16] {
+    turned_back(w, error.number(), error.value())
+}
+
+// Accepted, with nine words for the answer.
+pub(crate) fn given(w: [u64; 16], c: [u64; 9]) -> [u64; 16] {
+    [
+        w[0],
+        c[0],
+        c[1],
+        c[2],
+        c[3],
+        c[4],
+        c[5],
+        c[6],
+        c[7],
+        c[8],
+        w[10],
+        w[11],
+        w[12],
+        w[13],
+        0,
+        0,
+    ]
+}
+
+// Accepted, with four registers for the answer.
+pub(crate) fn written(w: [u64; 16], regs: [u64; 4]) -> [u64; 16] {
+    let mut answer = turned_back(w, 0, 0);
+    answer[10] = regs[0];
+    answer[11] = regs[1];
+    answer[12] = regs[2];
+    answer[13] = regs[3];
+    answer
+}
+
+// Accepted, with one word for the answer.
+pub(crate) fn written_word(w: [u64; 16], word: u64) -> [u64; 16] {
+    let mut answer = turned_back(w, 0, 0);
+    answer[10] = word;
+    answer
+}
+
+// The word of a value, if the record holds the value's own words.
+pub(crate) fn word_given(w: [u64; 16], own: [u64; 9], word: u64) -> [u64; 16] {
+    if differing_bits(nine_in(w), own) == 0 {
+        written_word(w, word)
+    } else {
+        turned_back(w, WRONG_PART, 0)
+    }
+}
+
+// The same where writing may refuse.
+pub(crate) fn word_answer(w: [u64; 16], own: [u64; 9], word: WordResult) -> [u64; 16] {
+    match word {
+        WordResult::Ok(word) => word_given(w, own, wide32(word)),
+        WordResult::Err(error) => {
+            if differing_bits(nine_in(w), own) == 0 {
+                refused(w, error)
+            } else {
+                turned_back(w, WRONG_PART, 0)
+            }
+        }
+    }
+}

@@ -1,0 +1,94 @@
+// Labelled cases: a line for each, with its label and what the codec answers.
+use crate::operations::answer;
+use crate::records::UNKNOWN_TAG;
+use crate::records::WRONG_PART;
+use crate::records::nine_in;
+use big_endian::byte_at;
+use call_exports::call_asked::Asked;
+use call_exports::call_asked::call_asked;
+use encode::EncodeResult;
+
+// Operations that only a labelled record has: a heading, which is a label alone; and a call written to a lent run, whose length is word 15.
+const HEADING: u64 = 1000;
+
+const LENT: u64 = 1001;
+
+// What a lent run holds before a call is written to it.
+const PATTERN: u64 = 0xa5a5;
+
+fn space() {
+    io::write_all(1, b" ");
+}
+
+pub(crate) fn new_line() {
+    io::write_all(1, b"\n");
+}
+
+fn show_refusal(number: u64, value: u64) {
+    io::write_all(1, b": refused ");
+    io::print_decimal(1, number);
+    space();
+    io::print_hex(1, value, 1);
+}
+
+// The words of a record from one place up to another.
+fn show_words(w: [u64; 16], from: usize, to: usize) {
+    let mut i = from;
+    while i < to {
+        if i < 16 {
+            space();
+            io::print_hex(1, w[i], 1);
+        }
+        i += 1;
+    }
+}
+
+// The answer to a record: readers give nine words, all others write registers. A word that was not written is as it was asked.
+fn show_answer(w: [u64; 16]) {
+    if w[14] == 0 {
+        io::write_all(1, b": accepted");
+    } else {
+        show_refusal(w[14], w[15]);
+    }
+    let op = w[0];
+    if op == 1 || op == 2 || 48 <= op {
+        show_words(w, 10, 14);
+    } else {
+        show_words(w, 1, 10);
+    }
+}
+
+// A call written to the first numbers of five.
+fn show_lent(w: [u64; 16]) {
+    let mut run = [PATTERN; 16];
+    let length = (w[15] % 6) as usize;
+    match call_asked(nine_in(w)) {
+        Asked::Call(function) => match encode::encode(function, &mut run[..length]) {
+            EncodeResult::Ok => {
+                io::write_all(1, b": accepted");
+            }
+            EncodeResult::Err(error) => show_refusal(error.number(), error.value()),
+        },
+        Asked::UnknownTag(tag) => show_refusal(UNKNOWN_TAG, tag),
+        Asked::WrongPart => show_refusal(WRONG_PART, 0),
+    }
+    show_words(run, 0, 5);
+}
+
+pub(crate) fn show_case(w: [u64; 16]) {
+    let op = w[0];
+    if op == LENT {
+        show_lent(w);
+    } else if op != HEADING {
+        show_answer(answer(w));
+    }
+    new_line();
+}
+
+// Byte 127 of a label is its length.
+pub(crate) fn show_label(label: &[u8]) {
+    let length = byte_at(label, 127) as usize;
+    if length < label.len() {
+        io::write_all(1, &label[..length]);
+    }
+}

@@ -1,0 +1,174 @@
+// A single value as nine words, a 0, its parts and zeros; and the value that parts stand for, each part cut to its place. call_exports has
+// the parts that a call has too.
+use bits::signs;
+use call_exports::parts::down;
+use call_exports::parts::entry_of;
+use call_exports::parts::feature_place;
+use call_exports::parts::mpidr_and;
+use call_exports::parts::smccc;
+use call_exports::parts::state_id;
+use call_exports::parts::three;
+use call_exports::parts::vendor;
+use call_exports::parts::vendor_type;
+use call_exports::places::function_place;
+use call_exports::places::mode_place;
+use call_exports::plain_words::low8;
+use call_exports::plain_words::low32;
+use codes::ErrorCode;
+use codes::ReturnCode;
+use function_ids::FunctionId;
+use refusals::Error;
+use words::EntryPoint;
+use words::HwState;
+use words::Mpidr;
+use words::PowerState;
+use words::PsciFeature;
+use words::ResetType;
+use words::SuspendMode;
+use words::Version;
+
+fn low16(part: u64) -> u16 {
+    (part % 0x1_0000) as u16
+}
+
+pub(crate) fn code_place(error_code: ErrorCode) -> u64 {
+    match error_code {
+        ErrorCode::NotSupported => 0,
+        ErrorCode::InvalidParameters => 1,
+        ErrorCode::Denied => 2,
+        ErrorCode::AlreadyOn => 3,
+        ErrorCode::OnPending => 4,
+        ErrorCode::InternalFailure => 5,
+        ErrorCode::NotPresent => 6,
+        ErrorCode::Disabled => 7,
+        ErrorCode::InvalidAddress => 8,
+    }
+}
+
+fn hw_state_place(state: HwState) -> u64 {
+    match state {
+        HwState::On => 0,
+        HwState::Off => 1,
+        HwState::Standby => 2,
+    }
+}
+
+// The words of a case at its place in an enum without data.
+pub(crate) fn place_words(place: u64) -> [u64; 9] {
+    three(0, place, 0, 0)
+}
+
+pub(crate) fn function_id_words(function_id: FunctionId) -> [u64; 9] {
+    place_words(function_place(function_id))
+}
+
+pub(crate) fn return_code_words(return_code: ReturnCode) -> [u64; 9] {
+    match return_code {
+        ReturnCode::Success => three(0, 0, 0, 0),
+        ReturnCode::Error(error_code) => three(0, 1, code_place(error_code), 0),
+    }
+}
+
+pub(crate) fn error_code_words(error_code: ErrorCode) -> [u64; 9] {
+    place_words(code_place(error_code))
+}
+
+pub(crate) fn version_words(version: Version) -> [u64; 9] {
+    three(0, version.major as u64, version.minor as u64, 0)
+}
+
+pub(crate) fn power_state_words(state: PowerState) -> [u64; 9] {
+    three(0, down(state), state_id(state), 0)
+}
+
+pub(crate) fn mpidr_words(mpidr: Mpidr) -> [u64; 9] {
+    mpidr_and(0, mpidr, 0, 0, 0)
+}
+
+pub(crate) fn entry_words(entry: EntryPoint) -> [u64; 9] {
+    entry_of(0, entry)
+}
+
+pub(crate) fn reset_type_words(reset_type: ResetType) -> [u64; 9] {
+    three(0, vendor(reset_type), vendor_type(reset_type), 0)
+}
+
+pub(crate) fn feature_words(feature: PsciFeature) -> [u64; 9] {
+    three(0, smccc(feature), feature_place(feature), 0)
+}
+
+pub(crate) fn hw_state_words(state: HwState) -> [u64; 9] {
+    place_words(hw_state_place(state))
+}
+
+pub(crate) fn suspend_mode_words(mode: SuspendMode) -> [u64; 9] {
+    place_words(mode_place(mode))
+}
+
+pub(crate) fn error_words(error: Error) -> [u64; 9] {
+    three(0, error.number(), error.value(), 0)
+}
+
+// Past the last place the first case, as in call_exports.
+
+pub(crate) fn code_at(place: u64) -> ErrorCode {
+    match place {
+        0 => ErrorCode::NotSupported,
+        1 => ErrorCode::InvalidParameters,
+        2 => ErrorCode::Denied,
+        3 => ErrorCode::AlreadyOn,
+        4 => ErrorCode::OnPending,
+        5 => ErrorCode::InternalFailure,
+        6 => ErrorCode::NotPresent,
+        7 => ErrorCode::Disabled,
+        8 => ErrorCode::InvalidAddress,
+        _ => ErrorCode::NotSupported,
+    }
+}
+
+pub(crate) fn hw_state_at(place: u64) -> HwState {
+    match place {
+        0 => HwState::On,
+        1 => HwState::Off,
+        2 => HwState::Standby,
+        _ => HwState::On,
+    }
+}
+
+pub(crate) fn return_code_in(failure: u64, place: u64) -> ReturnCode {
+    if failure == 0 {
+        ReturnCode::Success
+    } else {
+        ReturnCode::Error(code_at(place))
+    }
+}
+
+pub(crate) fn version_in(major: u64, minor: u64) -> Version {
+    Version {
+        major: low16(major),
+        minor: low16(minor),
+    }
+}
+
+// A number that no refusal has stands for 14, whose words are others.
+pub(crate) fn error_in(number: u64, value: u64) -> Error {
+    match number {
+        1 => Error::UnrecognisedFunctionId(low32(value)),
+        2 => Error::InvalidPowerState(low32(value)),
+        3 => Error::InvalidMpidr32(low32(value)),
+        4 => Error::InvalidMpidr64(value),
+        5 => Error::InvalidLowerAffinityLevel(low32(value)),
+        6 => Error::UnrecognisedSystemOff2Type(low32(value)),
+        7 => Error::UnrecognisedSystemReset2Type(low32(value)),
+        8 => Error::UnrecognisedSuspendMode(low32(value)),
+        9 => Error::UnrecognisedErrorCode(signs::signed_32(low32(value))),
+        10 => Error::OverflowingErrorCode(signs::signed_64(value)),
+        11 => Error::InvalidVersion(low32(value)),
+        12 => Error::UnrecognisedHwState(low32(value)),
+        13 => Error::IgnoredNonZeroAff3(low8(value)),
+        15 => Error::InvalidStateId(low32(value)),
+        16 => Error::InvalidMajorVersion(low16(value)),
+        17 => Error::WrongLength(value as usize),
+        _ => Error::MixedCallForms,
+    }
+}

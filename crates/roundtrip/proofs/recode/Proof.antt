@@ -1,0 +1,40 @@
+-- `recode::recode` meets its contract, the second part by demand 3.
+-- Assumes nothing.
+use mathlib.Core.Path.{_≡_, sym, ap, _∙_}
+use Prim.Native.Nat.{ℕ}
+use native.Mathlib.Omega.{arith}
+use lib.ListN.{getD}
+use mir.Syntax.{w64}
+use mir.Val.{Fits}
+use borrow.Author.Needs.{needs}
+use Rattle.function.specs.Functions.{functionAnswer}
+use Rattle.roundtrip.proofs.Recoding.{encoded, read-again, not-decoded}
+use Rattle.roundtrip.proofs.recode.Statement.{statement}
+use Rattle.roundtrip.proofs.recode.Tie as tie
+
+returns : tie.Need-returns
+returns c =
+    let start = c .before .before .before .before .before .before .before .before .before in
+    let fits : (i : ℕ) → Fits w64 (getD (start .args .regs) i 0) = λ i. search needs in
+    let decoded = sym (c .before .before .before .before .before .before .before .decode .ensures) ∙ ap functionAnswer (c .before .before .before .before .before .function .given .1) in (
+      encoded _ _ _ (c .before .before .encode .result) _ decoded (c .before .before .encode .ensures),
+      (λ ok. read-again _ _ _ (c .before .before .encode .result) _ (record { four = search needs; fits = λ i. fits i .fits }) decoded (c .before .before .encode .ensures .0) ok),
+    )
+
+returns-2 : tie.Need-returns-2
+returns-2 c = (
+  not-decoded _ _ (sym (c .before .before .before .decode .ensures) ∙ ap functionAnswer (c .before .error .given .1)),
+  (λ ok. let z : _≡_ {A = ℕ} 0 1 = cc in absurd (omega arith)),
+)
+
+pub recode-spec : {M : Type 1} → statement M
+recode-spec =
+    tie.close
+    (tie.spec
+    (λ c κs. search needs)
+    (λ c. search needs)
+    (λ c κs. search needs)
+    (λ c. search needs)
+    (λ c. search needs)
+    returns
+    returns-2)

@@ -1,0 +1,10 @@
+-- Decoding, then encoding into a lent run: the set's call, written again.
+use mathlib.Core.List.{List}
+use Prim.Native.Nat.{ℕ}
+use Rattle.refusals.specs.Answers.{Answer, andThen}
+use Rattle.decode_definition.specs.Decode.{decodeOf}
+use Rattle.encode_definition.specs.Encode.{encodeOf}
+
+-- decode's refusals first, then encode's
+abbrev pub recodeOf : List ℕ → List ℕ → Answer (List ℕ)
+recodeOf regs run = andThen (decodeOf regs) (λ f. encodeOf f run)

@@ -1,0 +1,12 @@
+-- Reset types' readers and writers invert each other, with the exception that the paper implies: the laws of the other file in one record. Assumes nothing.
+use Rattle.words.specs.ResetTypeLaws.{ResetTypeLaws}
+use Rattle.words.proofs.ResetTypeWords as resetTypes
+
+pub reset-type-laws : ResetTypeLaws
+reset-type-laws = record {
+  architectural-writes-back = resetTypes.architectural-writes-back;
+  architectural-reads-back = resetTypes.architectural-reads-back;
+  reset-type-writes-back = resetTypes.reset-type-writes-back;
+  reset-type-reads-back = resetTypes.reset-type-reads-back;
+  vendor-bit-31 = resetTypes.vendor-bit-31;
+}

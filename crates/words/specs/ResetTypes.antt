@@ -1,0 +1,51 @@
+-- Document 01, "The typed call": reset type: bit 31 set means vendor type in bits 0–30; otherwise only 0. Writing a vendor type sets bit 31.
+use mathlib.Core.Bool.{cond}
+use mathlib.Core.List.{List, [], _∷_}
+use Prim.Native.Nat.{ℕ}
+use lib.Dec.{eqb}
+use lib.IntN.{pos}
+use Rattle.bits.specs.Bits.{Field, _for_, bits, put}
+use Rattle.refusals.specs.Answers.{Answer, accepted, refused, choose, through}
+use Rattle.refusals.specs.Errors.{refusal}
+use Rattle.words.specs.declared.reset_types.ArchitecturalResetType.{ArchitecturalResetType}
+use Rattle.words.specs.declared.reset_types.ArchitecturalResetType.the-variants.{SystemWarmReset}
+use Rattle.words.specs.declared.reset_types.ArchitecturalResetTypeResult.{ArchitecturalResetTypeResult}
+use Rattle.words.specs.declared.reset_types.ArchitecturalResetTypeResult.the-variants as architectural
+use Rattle.words.specs.declared.reset_types.ResetType.{ResetType}
+use Rattle.words.specs.declared.reset_types.ResetType.the-variants.{Architectural, VendorSpecific}
+use Rattle.words.specs.declared.reset_types.ResetTypeResult.{ResetTypeResult}
+use Rattle.words.specs.declared.reset_types.ResetTypeResult.the-variants.{Ok, Err}
+
+abbrev pub architecturalNumber : ArchitecturalResetType → ℕ
+architecturalNumber SystemWarmReset = 0
+
+abbrev pub architecturalTypes : List ArchitecturalResetType
+architecturalTypes = SystemWarmReset ∷ []
+
+unfoldable pub readArchitecturalResetType : ℕ → Answer ArchitecturalResetType
+readArchitecturalResetType word = choose architecturalNumber architecturalTypes (refused 7 (pos word)) word
+
+abbrev pub architecturalAnswer : ArchitecturalResetTypeResult → Answer ArchitecturalResetType
+architecturalAnswer (architectural.Ok t) = accepted t
+architecturalAnswer (architectural.Err e) = refusal e
+
+abbrev pub vendorField : Field
+vendorField = 31 for 1
+
+abbrev pub vendorTypeField : Field
+vendorTypeField = 0 for 31
+
+unfoldable pub readResetType : ℕ → Answer ResetType
+readResetType word =
+    cond (eqb (bits vendorField word) 1)
+    (accepted (VendorSpecific (bits vendorTypeField word)))
+    (through Architectural (readArchitecturalResetType word))
+
+-- bit 31 of a typed vendor type is lost in the bit that marks it
+unfoldable pub writeResetType : ResetType → ℕ
+writeResetType (Architectural t) = architecturalNumber t
+writeResetType (VendorSpecific t) = put (vendorTypeField ∷ vendorField ∷ []) (bits vendorTypeField t ∷ 1 ∷ [])
+
+abbrev pub resetTypeAnswer : ResetTypeResult → Answer ResetType
+resetTypeAnswer (Ok t) = accepted t
+resetTypeAnswer (Err e) = refusal e
