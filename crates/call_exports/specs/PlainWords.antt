@@ -1,6 +1,6 @@
 -- Plain words: their low bits, and nine of them compared with nine others.
 use mathlib.Core.Bool.{cond}
-use mathlib.Core.List.{List, [], _∷_}
+use mathlib.Core.List.{List}
 use Prim.Native.Nat.{ℕ, _%_, _^_}
 use lib.Bits.{bitOr, bitXor}
 use lib.Dec.{eqb}

@@ -26,6 +26,7 @@ fn aff3_in(present: u64, part: u64) -> Aff3
     }
 }
 
+// The MPIDR of parts 1 to 5: whether affinity 3 is there, then affinities 3 to 0.
 pub fn mpidr_in(c: [u64; 9]) -> Mpidr
     ensures { λ r. ⌜ r ≡ mpidrIn c ⌝ }
 {
@@ -38,6 +39,7 @@ pub fn mpidr_in(c: [u64; 9]) -> Mpidr
     }
 }
 
+// 0 for standby or retention, any other number for power down; the low 32 bits of the state ID.
 pub fn power_state_in(down: u64, id: u64) -> PowerState
     ensures { λ r. ⌜ r ≡ powerStateIn down id ⌝ }
 {
@@ -48,6 +50,7 @@ pub fn power_state_in(down: u64, id: u64) -> PowerState
     }
 }
 
+// 0 for the 32-bit form, of the low 32 bits of each word; any other number for the 64-bit form.
 pub fn entry_in(form: u64, address: u64, context: u64) -> EntryPoint
     ensures { λ r. ⌜ r ≡ entryIn form address context ⌝ }
 {
@@ -64,6 +67,7 @@ pub fn entry_in(form: u64, address: u64, context: u64) -> EntryPoint
     }
 }
 
+// 0 for the 32-bit form, of the low 32 bits; any other number for the 64-bit form.
 pub fn cookie_in(form: u64, word: u64) -> Cookie
     ensures { λ r. ⌜ r ≡ cookieIn form word ⌝ }
 {
@@ -74,6 +78,7 @@ pub fn cookie_in(form: u64, word: u64) -> Cookie
     }
 }
 
+// 0 for the 32-bit form, of the low 32 bits of each word; any other number for the 64-bit form.
 pub fn range_in(form: u64, base: u64, length: u64) -> MemProtectRange
     ensures { λ r. ⌜ r ≡ rangeIn form base length ⌝ }
 {
@@ -87,6 +92,7 @@ pub fn range_in(form: u64, base: u64, length: u64) -> MemProtectRange
     }
 }
 
+// 0 for the architectural type, whatever the word; any other number for the vendor type of its low 32 bits.
 pub fn reset_type_in(vendor: u64, word: u64) -> ResetType
     ensures { λ r. ⌜ r ≡ resetTypeIn vendor word ⌝ }
 {
@@ -97,6 +103,7 @@ pub fn reset_type_in(vendor: u64, word: u64) -> ResetType
     }
 }
 
+// 0 for the function at a place, any other number for the SMCCC version.
 pub fn feature_in(smccc: u64, place: u64) -> PsciFeature
     ensures { λ r. ⌜ r ≡ featureIn smccc place ⌝ }
 {
@@ -107,6 +114,7 @@ pub fn feature_in(smccc: u64, place: u64) -> PsciFeature
     }
 }
 
+// 0 for platform coordinated, any other number for OS initiated.
 pub fn mode_in(place: u64) -> SuspendMode
     ensures { λ r. ⌜ r ≡ modeIn place ⌝ }
 {

@@ -1,4 +1,4 @@
-// The codec over plain words, for the comparison with the Rust, the benchmark and callers in C.
+// The codec over plain words, for callers in C and Rust: decode, encode, and one after the other. A call is handed over as nine words.
 ghost use mathlib.Core.Path.{_≡_};
 ghost use lib.IntN.{pos};
 ghost use lib.ListN.{length};
@@ -31,6 +31,7 @@ pub struct Refusal {
     pub carried: u64,
 }
 
+// Nothing was refused.
 fn accepted_words() -> Refusal
     ensures { λ r. ⌜ r ≡ refusalIs 0 (pos 0) ⌝ }
 {
@@ -40,6 +41,7 @@ fn accepted_words() -> Refusal
     }
 }
 
+// A refusal as it is told.
 fn refusal_of(error: Error) -> Refusal
     ensures { λ r. ⌜ r ≡ refusalIs (refusalNumber error) (refusalValue error) ⌝ }
 {
@@ -49,6 +51,7 @@ fn refusal_of(error: Error) -> Refusal
     }
 }
 
+// The nine words into the lent run, as a slice: the checker tells the length of a slice, and not that of `&mut [u64; 9]`.
 fn store(words: [u64; 9], out: &mut [u64])
     requires { ⌜ length (now out) ≡ 9 ⌝ }
     ensures { λ r. ⌜ now (out .exit) ≡ words ⌝ }

@@ -14,18 +14,21 @@ use words::PowerState;
 use words::PsciFeature;
 use words::ResetType;
 
+// A byte as a word.
 pub fn wide8(byte: u8) -> u64
     ensures { λ r. ⌜ r ≡ byte ⌝ }
 {
     byte as u64
 }
 
+// 32 bits as a word.
 pub fn wide32(word: u32) -> u64
     ensures { λ r. ⌜ r ≡ word ⌝ }
 {
     word as u64
 }
 
+// 1 if affinity 3 is there, 0 if not.
 pub fn mpidr_form(mpidr: Mpidr) -> u64
     ensures { λ r. ⌜ r ≡ formPart (mpidrForm (mpidr .aff3)) ⌝ }
 {
@@ -36,6 +39,7 @@ pub fn mpidr_form(mpidr: Mpidr) -> u64
     }
 }
 
+// Affinity 3, 0 where it is absent.
 pub fn aff3(mpidr: Mpidr) -> u64
     ensures { λ r. ⌜ r ≡ aff3Number (mpidr .aff3) ⌝ }
 {
@@ -46,6 +50,7 @@ pub fn aff3(mpidr: Mpidr) -> u64
     }
 }
 
+// 1 for power down, 0 for standby or retention.
 pub fn down(state: PowerState) -> u64
     ensures { λ r. ⌜ r ≡ downPart state ⌝ }
 {
@@ -55,6 +60,7 @@ pub fn down(state: PowerState) -> u64
     }
 }
 
+// The state ID, whatever its width.
 pub fn state_id(state: PowerState) -> u64
     ensures { λ r. ⌜ r ≡ stateId state ⌝ }
 {
@@ -64,6 +70,7 @@ pub fn state_id(state: PowerState) -> u64
     }
 }
 
+// 0 for the 32-bit form, 1 for the 64-bit form.
 pub fn entry_form(entry: EntryPoint) -> u64
     ensures { λ r. ⌜ r ≡ formPart (entryForm entry) ⌝ }
 {
@@ -73,6 +80,7 @@ pub fn entry_form(entry: EntryPoint) -> u64
     }
 }
 
+// 0 for the 32-bit form, 1 for the 64-bit form.
 pub fn cookie_form(cookie: Cookie) -> u64
     ensures { λ r. ⌜ r ≡ formPart (cookieForm cookie) ⌝ }
 {
@@ -82,6 +90,7 @@ pub fn cookie_form(cookie: Cookie) -> u64
     }
 }
 
+// 0 for the 32-bit form, 1 for the 64-bit form.
 pub fn range_form(range: MemProtectRange) -> u64
     ensures { λ r. ⌜ r ≡ formPart (rangeForm range) ⌝ }
 {
@@ -91,6 +100,7 @@ pub fn range_form(range: MemProtectRange) -> u64
     }
 }
 
+// 1 for a vendor type, 0 for the architectural one.
 pub fn vendor(reset_type: ResetType) -> u64
     ensures { λ r. ⌜ r ≡ vendorPart «reset_type» ⌝ }
 {
@@ -100,6 +110,7 @@ pub fn vendor(reset_type: ResetType) -> u64
     }
 }
 
+// The vendor type, 0 for the architectural one.
 pub fn vendor_type(reset_type: ResetType) -> u64
     ensures { λ r. ⌜ r ≡ vendorType «reset_type» ⌝ }
 {
@@ -109,6 +120,7 @@ pub fn vendor_type(reset_type: ResetType) -> u64
     }
 }
 
+// 1 for the SMCCC version, 0 for a function.
 pub fn smccc(feature: PsciFeature) -> u64
     ensures { λ r. ⌜ r ≡ smcccPart feature ⌝ }
 {
@@ -118,6 +130,7 @@ pub fn smccc(feature: PsciFeature) -> u64
     }
 }
 
+// The place of the function, 0 for the SMCCC version.
 pub fn feature_place(feature: PsciFeature) -> u64
     ensures { λ r. ⌜ r ≡ featurePlace feature ⌝ }
 {

@@ -20,7 +20,7 @@ use Rattle.words.specs.declared.entry_points.EntryPoint.the-variants.{Entry32, 
 use Rattle.words.specs.declared.cookies.Cookie.the-variants.{Cookie32, Cookie64}
 use Rattle.words.specs.declared.mem_protect_ranges.MemProtectRange.the-variants.{Range32, Range64}
 use Rattle.function.specs.declared.Function.{Function}
-use Rattle.function.specs.declared.Function.the-variants.{Version, CpuSuspend, CpuOff, CpuOn, AffinityInfo, Migrate, MigrateInfoType, MigrateInfoUpCpu, SystemOff, SystemOff2, SystemReset, SystemReset2, MemProtect, MemProtectCheckRange, Features, CpuFreeze, CpuDefaultSuspend, NodeHwState, SystemSuspend, SetSuspendMode, StatResidency, StatCount}
+use Rattle.function.specs.declared.Function.the-variants.{Version, CpuSuspend, CpuOff, CpuOn, Migrate, MigrateInfoType, MigrateInfoUpCpu, SystemOff, SystemOff2, SystemReset, SystemReset2, MemProtect, MemProtectCheckRange, Features, CpuFreeze, CpuDefaultSuspend, NodeHwState, SystemSuspend, SetSuspendMode, StatResidency, StatCount}
 use Rattle.decode_definition.specs.RefusalOrders.{affinityInfo}
 use Rattle.decode_definition.specs.RefusalOrders.{ofCoreState}
 use Rattle.decode_definition.specs.Decode.{decodeOf}

@@ -15,20 +15,8 @@ fn colon() {
     io::write_all(1, b": ");
 }
 
-// What a refusal carries.
-fn carried(error: LogError) -> u64 {
-    match error {
-        LogError::Empty => 0,
-        LogError::TooLong(size) => size as u64,
-        LogError::UnknownVersion(byte) => byte as u64,
-        LogError::BadPosition(at) => at as u64,
-        LogError::CutRecord(at) => at as u64,
-        LogError::BadLength(size) => size,
-    }
-}
-
 fn show_refusal(error: LogError) {
-    refused(error.number() as u64, carried(error));
+    refused(error.number() as u64, error.value());
 }
 
 fn show_read_answer(answer: ReadResult) {

@@ -4,7 +4,6 @@ use crate::text::new_line;
 use crate::text::number;
 use crate::text::refused;
 use call_log::records;
-use record_line::LineError;
 use record_line::LineResult;
 use sheet_text::SHEET_ROOM;
 use sheet_text::write_sheet;
@@ -15,10 +14,7 @@ fn show_answer(answer: LineResult) {
             io::write_all(1, b"length ");
             number(size as u64);
         }
-        LineResult::Err(error) => match error {
-            LineError::BadNumber(n) => refused(24, n as u64),
-            LineError::ShortRun(n) => refused(25, n as u64),
-        },
+        LineResult::Err(error) => refused(error.number(), error.value()),
     }
     new_line();
 }

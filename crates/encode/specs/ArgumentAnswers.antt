@@ -3,7 +3,6 @@ use mathlib.Core.List.{List, [], _∷_}
 use Prim.Native.Nat.{ℕ}
 use Rattle.refusals.specs.Answers.{Answer, accepted}
 use Rattle.refusals.specs.Errors.{refusal}
-use Rattle.encode.specs.declared.arguments.Arguments.{Arguments}
 use Rattle.encode.specs.declared.arguments.ArgumentsResult.{ArgumentsResult}
 use Rattle.encode.specs.declared.arguments.ArgumentsResult.the-variants.{Ok, Err}
 

@@ -20,6 +20,7 @@ pub struct Arguments {
     pub r3: u64,
 }
 
+// What the argument words of a call are, or the refusal of its power state.
 pub enum ArgumentsResult {
     Ok(Arguments),
     Err(Error),

@@ -27,6 +27,11 @@ four-words f words e =
     ap length (sym (all .1 .1) ∙ ap (λ (l : List ℕ). functionNumber (number .0) ∷ l) (sym (fields .1 .1)))
 
 module _ (f : Function) (run : List ℕ) where
+  -- another length is refused first, whatever the call
+  pub wrong-length : (length run ≡ 4 → ⊥) → encodeOf f run ≡ refused 17 (pos (length run))
+  unfolding encodeOf
+  wrong-length h = simp (ne-eqb (length run) 4 h)
+
   -- what encoding accepts, it accepts for a run of four
   pub run-of-four : (words : List ℕ) → encodeOf f run ≡ accepted words → length run ≡ 4
   unfolding encodeOf
@@ -46,10 +51,6 @@ module _ (f : Function) (run : List ℕ) where
   -- the words are the answer, and what is left
   pub written : {words : List ℕ} → encodeOf f run ≡ accepted words → (accepted words ≡ encodeOf f run) × (words ≡ left (encodeOf f run) run)
   written {words} e = (sym e, sym (all-left words e) ∙ ap (λ (a : Answer (List ℕ)). left a run) (sym e))
-
-  pub wrong-length : (length run ≡ 4 → ⊥) → encodeOf f run ≡ refused 17 (pos (length run))
-  unfolding encodeOf
-  wrong-length h = simp (ne-eqb (length run) 4 h)
 
   module _ (h : length run ≡ 4) where
     pub no-number : {number : ℕ} {value : ℤ} → functionIdOf f ≡ refused number value → encodeOf f run ≡ refused number value

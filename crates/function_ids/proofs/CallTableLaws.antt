@@ -7,8 +7,9 @@ use native.Mathlib.Omega.{arith}
 use lib.Dec.{eqb}
 use lib.ListN.{length, getD}
 use borrow.Author.Tests.{eqb-true, eq-eqb}
+use Rattle.bits.proofs.Picks.{choice}
 use Rattle.function_ids.specs.FunctionIds.{functions, functionNumber, form32, form64, narrow, wide}
-use Rattle.function_ids.specs.CallTable.{Kind, powerState, entry, context, mpidr, level, feature, mode, resetType, offType, cookie, rangeBase, rangeLength, memoryProtect, kindNumber, sameKind, Listed, Row, one, both, callTable, numbers, Rule, rule, ruleIn, ruleOf}
+use Rattle.function_ids.specs.CallTable.{Kind, powerState, entry, context, mpidr, level, feature, mode, resetType, offType, cookie, rangeBase, rangeLength, memoryProtect, kindNumber, sameKind, Row, one, both, callTable, numbers, Rule, rule, ruleIn, ruleOf}
 use Rattle.function_ids.specs.CallTableLaws.{CallTableLaws, apart}
 
 -- document 01's table has these numbers, and there are exactly 35
@@ -31,8 +32,7 @@ both-true true u h = (refl, h)
 both-true false u h = let z : _≡_ {A = ℕ} 0 1 = ap (λ (b : Bool). cond b 1 0) h in absurd (omega arith)
 
 either : (t : Bool) (x y : Rule) → apart (x .fields) ≡ true → apart (y .fields) ≡ true → apart (cond t x y .fields) ≡ true
-either true x y p q = p
-either false x y p q = q
+either t x y p q = choice (λ (r : Rule). apart (r .fields) ≡ true) t (λ e. p) (λ e. q)
 
 -- then so do those of the rule of every number, which is one of the rows' or has no fields
 in-rows : (rows : List Row) → allApart rows ≡ true → (number : ℕ) → apart (ruleIn rows number .fields) ≡ true

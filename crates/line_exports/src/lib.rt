@@ -17,20 +17,14 @@ pub struct Written {
     pub carried: u64,
 }
 
+// A refusal as it is told: no bytes, its number, and what it carries.
 fn refused_line(error: LineError) -> Written
     ensures { λ r. ⌜ r ≡ refusedLine (lineRefusalNumber error) (lineRefusalValue error) ⌝ }
 {
-    match error {
-        LineError::BadNumber(number) => Written {
-            size: 0,
-            number: 24,
-            carried: number as u64,
-        },
-        LineError::ShortRun(size) => Written {
-            size: 0,
-            number: 25,
-            carried: size as u64,
-        },
+    Written {
+        size: 0,
+        number: error.number(),
+        carried: error.value(),
     }
 }
 

@@ -1,9 +1,9 @@
 -- What an operation gives: the thing asked for, or one of document 01's refusals, by its number and the value that it carries.
-use mathlib.Core.Bool.{Bool, cond}
+use mathlib.Core.Bool.{cond}
 use mathlib.Core.List.{List, [], _∷_}
 use Prim.Native.Nat.{ℕ}
 use lib.Dec.{eqb}
-use lib.IntN.{ℤ, pos}
+use lib.IntN.{ℤ}
 
 pub data Answer (A : Type 0) : Type 0 where
   accepted : A → Answer A

@@ -1,15 +1,16 @@
 -- Demand 3 of any codec that decodes by the kept words and writes what it accepted as those words. Assumes nothing.
 use mathlib.Core.Path.{_≡_, refl, sym, ap, _∙_}
 use mathlib.Core.Bool.{Bool, true, false, cond}
-use mathlib.Core.List.{List, [], _∷_}
-use mathlib.Core.Logic.{_⊎_, inl, inr, ⊎-elim}
-use Prim.Native.Nat.{ℕ, zero, suc, _%_, _^_, _<_, _≤_}
+use mathlib.Core.List.{List}
+use mathlib.Core.Logic.{inl, inr}
+use Prim.Native.Nat.{ℕ, zero, suc, _^_, _<_, _≤_}
 use native.Mathlib.Omega.{arith}
-use native.Mathlib.Nat.{mod-eq-of-lt, mod-mod, mod-lt, div-eq-of-lt, lt-of-lt-of-le}
+use native.Mathlib.Nat.{mod-eq-of-lt, mod-mod, div-eq-of-lt, lt-of-lt-of-le}
 use lib.Dec.{eqb}
 use lib.ListN.{length, getD}
 use lib.Pow.{pow-mono}
 use borrow.Author.Tests.{eqb-true, eqb-false, eq-eqb, ne-eqb}
+use Rattle.bits.proofs.Picks.{choice}
 use Rattle.refusals.specs.Answers.{Answer, accepted}
 use Rattle.refusals.specs.Lent.{left}
 use Rattle.refusals.proofs.Lending.{fronted-all}
@@ -22,11 +23,6 @@ use Rattle.roundtrip.proofs.Bits.{bits-mod, mod-bits}
 pub small : (t : Bool) → cond t 0 1 < 2
 small true = omega arith
 small false = omega arith
-
--- a claim of a choice holds where it holds of what is chosen
-choice : {A : Type 0} (P : A → Type 0) (t : Bool) {x y : A} → (t ≡ true → P x) → (t ≡ false → P y) → P (cond t x y)
-choice P true f g = f refl
-choice P false f g = g refl
 
 twice : (part : Part) (t : Bool) → keep (zeroOrNot part) (cond t 0 1) ≡ cond t 0 1
 twice lowHalf true = refl

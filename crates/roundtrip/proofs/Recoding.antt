@@ -12,8 +12,7 @@ use Rattle.encode_definition.proofs.Laws.{run-of-four}
 use Rattle.encode.specs.Answers.{encodeAnswer}
 use Rattle.encode.specs.declared.EncodeResult.{EncodeResult}
 use Rattle.encode.specs.declared.EncodeResult.the-variants.{Ok}
-use Rattle.roundtrip.specs.Codec.{Registers, wordsIn}
-use Rattle.roundtrip.specs.Psci.{psci}
+use Rattle.roundtrip.specs.Codec.{Registers}
 use Rattle.roundtrip.specs.Recode.{recodeOf}
 use Rattle.roundtrip.proofs.Psci.{demand3-of-01}
 

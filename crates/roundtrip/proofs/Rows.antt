@@ -1,11 +1,11 @@
 -- What each function accepts is written as its number and the values of its fields. Assumes nothing.
-use mathlib.Core.Path.{_≡_, refl, sym, ap}
+use mathlib.Core.Path.{_≡_, refl, ap}
 use mathlib.Core.Bool.{Bool, true, false, cond}
 use mathlib.Core.List.{List, [], _∷_}
 use Prim.Native.Nat.{ℕ, zero, suc, _^_, _<_}
 use native.Mathlib.Omega.{arith}
 use lib.Dec.{leb}
-use lib.IntN.{ℤ, pos}
+use lib.IntN.{pos}
 use Rattle.refusals.specs.Answers.{Answer, accepted, refused, through}
 use Rattle.refusals.specs.Inverses.{WritesBack, always, Word32}
 use Rattle.function_ids.specs.FunctionIds.{Form, narrow, wide, functionNumber}

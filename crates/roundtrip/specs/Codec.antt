@@ -16,9 +16,8 @@ pub record Codec : Type 1 where
   pub encode : Call → List ℕ → Answer (List ℕ)
   pub look : ℕ → ℕ → Look
 
--- four registers of 64 bits
+-- registers of 64 bits
 pub record Registers (r : List ℕ) : Type 0 where
-  pub four : length r ≡ 4
   pub fits : (i : ℕ) → getD r i 0 < 2 ^ 64
 
 -- bit j of a word

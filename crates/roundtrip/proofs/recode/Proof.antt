@@ -18,7 +18,7 @@ returns c =
     let fits : (i : ℕ) → Fits w64 (getD (start .args .regs) i 0) = λ i. search needs in
     let decoded = sym (c .before .before .before .before .before .before .before .decode .ensures) ∙ ap functionAnswer (c .before .before .before .before .before .function .given .1) in (
       encoded _ _ _ (c .before .before .encode .result) _ decoded (c .before .before .encode .ensures),
-      (λ ok. read-again _ _ _ (c .before .before .encode .result) _ (record { four = search needs; fits = λ i. fits i .fits }) decoded (c .before .before .encode .ensures .0) ok),
+      (λ ok. read-again _ _ _ (c .before .before .encode .result) _ (record { fits = λ i. fits i .fits }) decoded (c .before .before .encode .ensures .0) ok),
     )
 
 returns-2 : tie.Need-returns-2

@@ -1,6 +1,5 @@
 -- `from_parts::mode_in` meets its contract.
 -- Assumes nothing.
-use borrow.Author.Needs.{needs}
 use borrow.Author.Tests.{eq-eqb, ne-eqb}
 use Rattle.call_exports.proofs.from_parts.mode_in.Statement.{statement}
 use Rattle.call_exports.proofs.from_parts.mode_in.Tie as tie

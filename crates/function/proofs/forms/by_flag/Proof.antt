@@ -1,6 +1,5 @@
 -- `forms::by_flag` meets its contract.
 -- Assumes nothing.
-use borrow.Author.Needs.{needs}
 use Rattle.function.proofs.forms.by_flag.Statement.{statement}
 use Rattle.function.proofs.forms.by_flag.Tie as tie
 

@@ -1,6 +1,5 @@
 -- `Mpidr::to_u32` meets its contract. Assumes nothing.
-use mathlib.Core.Path.{_≡_, _∙_, sym, ap}
-use Prim.Native.Nat.{ℕ}
+use mathlib.Core.Path.{_∙_, sym, ap}
 use lib.Dec.{eqb}
 use lib.IntN.{pos}
 use borrow.Author.Needs.{needs}

@@ -1,5 +1,5 @@
 -- `Mpidr::try_from_u32` meets its contract: its mask is the complement of the fields'. Assumes nothing.
-use mathlib.Core.Path.{_≡_, refl, ap, _∙_}
+use mathlib.Core.Path.{refl, ap, _∙_}
 use native.Mathlib.Nat.{div-one}
 use lib.Dec.{lit<}
 use borrow.Author.Needs.{needs}

@@ -1,5 +1,5 @@
 -- `Mpidr::try_from_u64` meets its contract: its mask is the complement of the fields'. Assumes nothing.
-use mathlib.Core.Path.{_≡_, refl, ap}
+use mathlib.Core.Path.{refl, ap}
 use lib.Dec.{lit<}
 use borrow.Author.Needs.{needs}
 use Rattle.refusals.specs.Answers.{accepted}

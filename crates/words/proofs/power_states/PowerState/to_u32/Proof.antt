@@ -1,5 +1,5 @@
 -- `PowerState::to_u32` meets its contract. Assumes nothing.
-use mathlib.Core.Path.{_≡_, _∙_, sym, ap}
+use mathlib.Core.Path.{_∙_, sym, ap}
 use borrow.Author.Needs.{needs}
 use Rattle.words.specs.PowerStates.{writePowerState}
 use Rattle.words.proofs.power_states.PowerState.to_u32.Statement.{statement}
