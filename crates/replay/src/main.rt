@@ -17,8 +17,8 @@ mod sweeps;
 mod values;
 mod writers;
 
-use big_endian::byte_at;
-use big_endian::word_at;
+use call_log::big_endian::byte_at;
+use call_log::big_endian::word_at;
 use compared::agrees;
 use input::read_all;
 use shown::new_line;

@@ -3,9 +3,9 @@ use crate::operations::answer;
 use crate::records::UNKNOWN_TAG;
 use crate::records::WRONG_PART;
 use crate::records::nine_in;
-use big_endian::byte_at;
 use call_exports::call_asked::Asked;
 use call_exports::call_asked::call_asked;
+use call_log::big_endian::byte_at;
 use encode::EncodeResult;
 
 // Operations that only a labelled record has: a heading, which is a label alone; and a call written to a lent run, whose length is word 15.
