@@ -25,6 +25,7 @@ pub enum Asked {
     WrongPart,
 }
 
+// 0 for clear, any other number for set.
 fn is_set(part: u64) -> bool
     ensures { λ r. ⌜ r ≡ not (eqb part 0) ⌝ }
 {
@@ -111,7 +112,8 @@ fn call_at(c: [u64; 9]) -> Asked
     Asked::Call(function)
 }
 
-// The call whose nine words these are.
+// The call whose nine words these are. A tag above 21 is unknown; words that are not those of the call of their tag, as a part that has no
+// room in its place, are wrong.
 pub fn call_asked(c: [u64; 9]) -> Asked
     ensures { λ r. ⌜ askedAnswer r ≡ callAsked c ⌝ }
 {

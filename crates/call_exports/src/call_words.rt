@@ -21,7 +21,7 @@ use words::cookie_word;
 use words::flag_word;
 use words::length_word;
 
-// The words of a call.
+// The words of a call: its tag, the parts of its fields in their order, then zeros. Every call has them.
 pub fn call_words(function: Function) -> [u64; 9]
     ensures { λ r. ⌜ r ≡ callWords function ⌝ }
 {

@@ -16,6 +16,7 @@ use words::PsciFeature;
 use words::ResetType;
 use words::SuspendMode;
 
+// 0 for absent, any other number for the low byte of the part.
 fn aff3_in(present: u64, part: u64) -> Aff3
     ensures { λ r. ⌜ r ≡ either present Aff3.None (Aff3.Some (byte part)) ⌝ }
 {

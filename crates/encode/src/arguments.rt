@@ -26,7 +26,7 @@ pub enum ArgumentsResult {
     Err(Error),
 }
 
-// The fields of a call in their registers; refused for a state ID that has no room.
+// The fields of a call in their registers, zero elsewhere. A state ID above 0x0fffffff is refused with 15; a level is not checked.
 pub fn argument_words(function: Function) -> ArgumentsResult
     ensures { λ r. ⌜ argumentsAnswer r ≡ argumentsOf function ⌝ }
 {
@@ -92,6 +92,7 @@ pub fn argument_words(function: Function) -> ArgumentsResult
     }
 }
 
+// Three words that can't be refused.
 fn three(r1: u64, r2: u64, r3: u64) -> ArgumentsResult
     ensures { λ r. ⌜ argumentsAnswer r ≡ accepted (r1 ∷ r2 ∷ r3 ∷ []) ⌝ }
 {

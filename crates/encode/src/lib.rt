@@ -23,7 +23,8 @@ pub enum EncodeResult {
     Err(Error),
 }
 
-// Writes the four words of a call. A refusal leaves the run as it was.
+// Writes the four words of a call. Refused in this order, and the run left as it was: a run not four numbers long with 17, a CPU on whose
+// MPIDR and entry differ in form with 14, a state ID above 0x0fffffff with 15.
 pub fn encode(function: Function, out: &mut [u64]) -> EncodeResult
     ensures { λ r. ⌜ (encodeAnswer r (now (out .exit)) ≡ encodeOf function (now (out .entry))) × (now (out .exit) ≡ left (encodeOf function (now (out .entry))) (now (out .entry))) ⌝ }
 {
@@ -54,6 +55,7 @@ fn words(function_id: FunctionId, arguments: Arguments) -> [u64; 4]
     [number, r1, r2, r3]
 }
 
+// The four words into a run of four.
 fn store(words: [u64; 4], out: &mut [u64])
     requires { ⌜ length (now out) ≡ 4 ⌝ }
     ensures { λ r. ⌜ now (out .exit) ≡ words ⌝ }

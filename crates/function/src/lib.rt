@@ -91,7 +91,8 @@ pub enum FunctionResult {
 }
 
 impl Function {
-    // The function number: refused for a CPU on whose MPIDR and entry differ in form.
+    // The function number, in the form that the call follows. A CPU on whose MPIDR and entry differ in form is refused with 14; nothing else
+    // is refused.
     pub fn function_id(self) -> FunctionIdResult
         ensures { λ r. ⌜ functionIdAnswer r ≡ functionIdOf self ⌝ }
     {

@@ -29,7 +29,7 @@ fn places(lent: usize, room: usize) -> usize
     lent - room + 1
 }
 
-// A number in decimal.
+// A number in decimal, with no 0 in front; of any number, where 20 bytes are there.
 pub fn put_decimal(out: &mut [u8], at: usize, n: u64) -> usize
     ensures { λ r. ⌜ WroteInRoom 20 (now (out .entry)) at (decimal n) (now (out .exit)) r ⌝ }
 {
@@ -39,7 +39,7 @@ pub fn put_decimal(out: &mut [u8], at: usize, n: u64) -> usize
     text::put_digits(out, at, n, MOST_DIGITS)
 }
 
-// A number in decimal, then a space and the 16 hexadecimal digits of a word.
+// A number in decimal, then a space and the 16 hexadecimal digits of a word, where 37 bytes are there.
 pub fn put_pair(out: &mut [u8], at: usize, n: u64, word: u64) -> usize
     ensures { λ r. ⌜ WroteInRoom 37 (now (out .entry)) at (decimal n ++ (space ∷ wordText word)) (now (out .exit)) r ⌝ }
 {
@@ -50,7 +50,7 @@ pub fn put_pair(out: &mut [u8], at: usize, n: u64, word: u64) -> usize
     text::put_word(out, second, word)
 }
 
-// Four words, each after a space.
+// Four words, each after a space, where 68 bytes are there.
 pub fn put_words(out: &mut [u8], at: usize, words: [u64; 4]) -> usize
     ensures { λ r. ⌜ WroteInRoom 68 (now (out .entry)) at (wordsText words) (now (out .exit)) r ⌝ }
 {

@@ -7,6 +7,7 @@ ghost use Rattle.number_text.specs.Digits.{glyph};
 ghost use Rattle.number_text.specs.Text.{space, hexadecimal, wordText, decimalIn};
 use crate::digits::digit;
 
+// One byte.
 fn put(out: &mut [u8], at: usize, byte: u8) -> usize
     requires { ⌜ at + 1 ≤ length (now out) ⌝ }
     ensures { λ r. ⌜ Wrote (now (out .entry)) at (byte ∷ []) (now (out .exit)) r ⌝ }

@@ -77,6 +77,7 @@ impl Error {
     }
 }
 
+// A signed number of 32 bits as a word of 64.
 fn sign_extended(value: i32) -> u64
     ensures { λ r. ⌜ r ≡ wordOf 64 value ⌝ }
 {

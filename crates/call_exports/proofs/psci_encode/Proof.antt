@@ -1,4 +1,4 @@
--- `wire::psci_encode` meets its contract.
+-- `call_exports::psci_encode` meets its contract.
 -- Assumes nothing.
 use mathlib.Core.Path.{sym, ap, _∙_}
 use borrow.Author.Needs.{needs}

@@ -1,4 +1,4 @@
--- `wire::psci_recode` meets its contract.
+-- `call_exports::psci_recode` meets its contract.
 -- Assumes nothing.
 use borrow.Author.Needs.{needs}
 use Rattle.call_exports.proofs.ExportLaws.{told}

@@ -1,4 +1,4 @@
--- `wire::refusal_of` meets its contract.
+-- `call_exports::refusal_of` meets its contract.
 -- Assumes nothing.
 use borrow.Author.Needs.{needs}
 use Rattle.call_exports.proofs.refusal_of.Statement.{statement}

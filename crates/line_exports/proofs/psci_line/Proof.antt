@@ -1,4 +1,4 @@
--- `line::psci_line` meets its contract.
+-- `line_exports::psci_line` meets its contract.
 -- Assumes nothing.
 use mathlib.Core.Path.{refl}
 use borrow.Author.Needs.{needs}

@@ -1,4 +1,4 @@
--- `line_text::put_decimal` meets its contract. Assumes nothing.
+-- `number_text::put_decimal` meets its contract. Assumes nothing.
 use native.Mathlib.Omega.{arith}
 use borrow.Author.Needs.{needs}
 use Rattle.refusals.proofs.Lending.{no-room, with-room}

@@ -1,4 +1,4 @@
--- `line_text::put_pair` meets its contract. Assumes nothing.
+-- `number_text::put_pair` meets its contract. Assumes nothing.
 use native.Mathlib.Omega.{arith}
 use borrow.Author.Needs.{needs}
 use Rattle.refusals.proofs.Lending.{wrote-then, no-room, with-room}

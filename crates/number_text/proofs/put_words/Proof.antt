@@ -1,4 +1,4 @@
--- `line_text::put_words` meets its contract. Assumes nothing.
+-- `number_text::put_words` meets its contract. Assumes nothing.
 use native.Mathlib.Omega.{arith}
 use lib.ListN.{getD}
 use borrow.Author.Needs.{needs}

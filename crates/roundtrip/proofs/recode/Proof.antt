@@ -1,4 +1,4 @@
--- `recode::recode` meets its contract, the second part by demand 3.
+-- `roundtrip::recode` meets its contract, the second part by demand 3.
 -- Assumes nothing.
 use mathlib.Core.Path.{_≡_, sym, ap, _∙_}
 use Prim.Native.Nat.{ℕ}

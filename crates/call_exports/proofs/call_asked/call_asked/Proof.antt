@@ -1,4 +1,4 @@
--- `call_asked::call_asked` meets its contract.
+-- `call_exports::call_asked::call_asked` meets its contract.
 -- Assumes nothing.
 use mathlib.Core.Path.{sym, ap, _∙_}
 use borrow.Author.Needs.{needs}

@@ -1,4 +1,4 @@
--- `call_asked::call_at` meets its contract.
+-- `call_exports::call_asked::call_at` meets its contract.
 -- Assumes nothing.
 use mathlib.Core.Path.{refl}
 use borrow.Author.Needs.{needs}

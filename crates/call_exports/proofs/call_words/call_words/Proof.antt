@@ -1,4 +1,4 @@
--- `call_words::call_words` meets its contract.
+-- `call_exports::call_words::call_words` meets its contract.
 -- Assumes nothing.
 use borrow.Author.Needs.{needs}
 use Rattle.call_exports.specs.CallWords.{callWords}

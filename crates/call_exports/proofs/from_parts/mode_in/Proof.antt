@@ -1,4 +1,4 @@
--- `from_parts::mode_in` meets its contract.
+-- `call_exports::from_parts::mode_in` meets its contract.
 -- Assumes nothing.
 use borrow.Author.Tests.{eq-eqb, ne-eqb}
 use Rattle.call_exports.proofs.from_parts.mode_in.Statement.{statement}

@@ -1,4 +1,4 @@
--- `from_parts::mpidr_in` meets its contract.
+-- `call_exports::from_parts::mpidr_in` meets its contract.
 -- Assumes nothing.
 use borrow.Author.Needs.{needs}
 use Rattle.call_exports.proofs.from_parts.mpidr_in.Statement.{statement}

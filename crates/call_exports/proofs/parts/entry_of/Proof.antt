@@ -1,4 +1,4 @@
--- `parts::entry_of` meets its contract.
+-- `call_exports::parts::entry_of` meets its contract.
 -- Assumes nothing.
 use borrow.Author.Needs.{needs}
 use Rattle.call_exports.proofs.parts.entry_of.Statement.{statement}

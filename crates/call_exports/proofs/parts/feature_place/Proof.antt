@@ -1,4 +1,4 @@
--- `parts::parts::feature_place` meets its contract.
+-- `call_exports::parts::feature_place` meets its contract.
 -- Assumes nothing.
 use borrow.Author.Needs.{needs}
 use Rattle.call_exports.proofs.parts.feature_place.Statement.{statement}

@@ -1,4 +1,4 @@
--- `parts::mpidr_and` meets its contract.
+-- `call_exports::parts::mpidr_and` meets its contract.
 -- Assumes nothing.
 use borrow.Author.Needs.{needs}
 use Rattle.call_exports.proofs.parts.mpidr_and.Statement.{statement}

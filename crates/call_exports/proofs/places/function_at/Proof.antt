@@ -1,4 +1,4 @@
--- `places::function_at` meets its contract: each arm has the place of what it gives, and the last arm none of them.
+-- `call_exports::places::function_at` meets its contract: each arm has the place of what it gives, and the last arm none of them.
 -- Assumes nothing.
 use mathlib.Core.Path.{sym, ap}
 use Rattle.function_ids.specs.FunctionIds.{functions}

@@ -1,4 +1,4 @@
--- `places::function_place` meets its contract.
+-- `call_exports::places::function_place` meets its contract.
 -- Assumes nothing.
 use borrow.Author.Needs.{needs}
 use Rattle.call_exports.proofs.places.function_place.Statement.{statement}

@@ -1,4 +1,4 @@
--- `words::differing_bits` meets its contract.
+-- `call_exports::plain_words::differing_bits` meets its contract.
 -- Assumes nothing.
 use mathlib.Core.Path.{refl}
 use borrow.Author.Needs.{needs}

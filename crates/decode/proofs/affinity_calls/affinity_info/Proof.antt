@@ -1,4 +1,4 @@
--- `affinity_calls::affinity_info` meets its contract.
+-- `decode::affinity_calls::affinity_info` meets its contract.
 -- Assumes nothing.
 use borrow.Author.Needs.{needs}
 use borrow.Author.Tests.{le-leb, lt-leb}

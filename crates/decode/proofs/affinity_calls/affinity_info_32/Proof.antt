@@ -1,4 +1,4 @@
--- `affinity_calls::affinity_info_32` meets its contract. Assumes nothing.
+-- `decode::affinity_calls::affinity_info_32` meets its contract. Assumes nothing.
 use borrow.Author.Needs.{needs}
 use Rattle.decode.proofs.affinity_calls.affinity_info_32.Statement.{statement}
 use Rattle.decode.proofs.affinity_calls.affinity_info_32.Tie as tie

@@ -1,4 +1,4 @@
--- `calls::cpu_suspend` meets its contract.
+-- `decode::calls::cpu_suspend` meets its contract.
 -- Assumes nothing.
 use borrow.Author.Needs.{needs}
 use Rattle.decode.proofs.calls.cpu_suspend.Statement.{statement}

@@ -1,4 +1,4 @@
--- `calls::features` meets its contract.
+-- `decode::calls::features` meets its contract.
 -- Assumes nothing.
 use borrow.Author.Needs.{needs}
 use Rattle.decode.proofs.calls.features.Statement.{statement}

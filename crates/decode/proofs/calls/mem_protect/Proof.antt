@@ -1,4 +1,4 @@
--- `calls::mem_protect` meets its contract.
+-- `decode::calls::mem_protect` meets its contract.
 -- Assumes nothing.
 use borrow.Author.Tests.{eq-eqb, ne-eqb}
 use Rattle.decode.proofs.calls.mem_protect.Statement.{statement}

@@ -1,4 +1,4 @@
--- `calls::reset2` meets its contract.
+-- `decode::calls::reset2` meets its contract.
 -- Assumes nothing.
 use borrow.Author.Needs.{needs}
 use Rattle.decode.proofs.calls.reset2.Statement.{statement}

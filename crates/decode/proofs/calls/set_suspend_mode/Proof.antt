@@ -1,4 +1,4 @@
--- `calls::set_suspend_mode` meets its contract.
+-- `decode::calls::set_suspend_mode` meets its contract.
 -- Assumes nothing.
 use borrow.Author.Needs.{needs}
 use Rattle.decode.proofs.calls.set_suspend_mode.Statement.{statement}

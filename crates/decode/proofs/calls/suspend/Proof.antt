@@ -1,4 +1,4 @@
--- `calls::suspend` meets its contract.
+-- `decode::calls::suspend` meets its contract.
 -- Assumes nothing.
 use borrow.Author.Needs.{needs}
 use Rattle.decode.proofs.calls.suspend.Statement.{statement}

@@ -1,4 +1,4 @@
--- `core_calls::migrate` meets its contract.
+-- `decode::core_calls::migrate` meets its contract.
 -- Assumes nothing.
 use borrow.Author.Needs.{needs}
 use Rattle.decode.proofs.core_calls.migrate.Statement.{statement}

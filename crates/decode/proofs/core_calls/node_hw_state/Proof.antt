@@ -1,4 +1,4 @@
--- `core_calls::node_hw_state` meets its contract.
+-- `decode::core_calls::node_hw_state` meets its contract.
 -- Assumes nothing.
 use borrow.Author.Needs.{needs}
 use Rattle.decode.proofs.core_calls.node_hw_state.Statement.{statement}

@@ -1,4 +1,4 @@
--- `registers::number_in` meets its contract. Assumes nothing.
+-- `decode::registers::number_in` meets its contract. Assumes nothing.
 use mathlib.Core.Path.{refl}
 use borrow.Author.Needs.{needs}
 use Rattle.decode.proofs.registers.number_in.Statement.{statement}

@@ -1,4 +1,4 @@
--- `stat_calls::stat_count` meets its contract.
+-- `decode::stat_calls::stat_count` meets its contract.
 -- Assumes nothing.
 use borrow.Author.Needs.{needs}
 use Rattle.decode.proofs.stat_calls.stat_count.Statement.{statement}

@@ -1,4 +1,4 @@
--- `arguments::argument_words` meets its contract.
+-- `encode::arguments::argument_words` meets its contract.
 -- Assumes nothing.
 use borrow.Author.Needs.{needs}
 use Rattle.refusals.proofs.Answering.{through-twice}

@@ -1,4 +1,4 @@
--- `forms::by_entry` meets its contract.
+-- `function::forms::by_entry` meets its contract.
 -- Assumes nothing.
 use borrow.Author.Needs.{needs}
 use Rattle.function.proofs.forms.by_entry.Statement.{statement}

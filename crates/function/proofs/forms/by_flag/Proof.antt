@@ -1,4 +1,4 @@
--- `forms::by_flag` meets its contract.
+-- `function::forms::by_flag` meets its contract.
 -- Assumes nothing.
 use Rattle.function.proofs.forms.by_flag.Statement.{statement}
 use Rattle.function.proofs.forms.by_flag.Tie as tie

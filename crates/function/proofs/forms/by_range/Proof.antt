@@ -1,4 +1,4 @@
--- `forms::by_range` meets its contract.
+-- `function::forms::by_range` meets its contract.
 -- Assumes nothing.
 use borrow.Author.Needs.{needs}
 use Rattle.function.proofs.forms.by_range.Statement.{statement}

@@ -1,4 +1,4 @@
--- `forms::cpu_on` meets its contract.
+-- `function::forms::cpu_on` meets its contract.
 -- Assumes nothing.
 use borrow.Author.Needs.{needs}
 use Rattle.function.proofs.forms.cpu_on.Statement.{statement}

@@ -1,4 +1,4 @@
--- `digits::digit` meets its contract. Assumes nothing.
+-- `number_text::digits::digit` meets its contract. Assumes nothing.
 use Prim.Native.Nat.{_%_}
 use native.Mathlib.Omega.{arith}
 use borrow.Author.Needs.{needs}

@@ -1,4 +1,4 @@
--- `text::put` meets its contract. Assumes nothing.
+-- `number_text::text::put` meets its contract. Assumes nothing.
 use borrow.Author.Needs.{needs}
 use Rattle.refusals.proofs.Lending.{wrote-byte}
 use Rattle.number_text.proofs.text.put.Statement.{statement}

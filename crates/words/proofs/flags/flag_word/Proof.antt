@@ -1,4 +1,4 @@
--- `flags::flag_word` meets its contract.
+-- `words::flags::flag_word` meets its contract.
 -- Assumes nothing.
 use Rattle.words.proofs.flags.flag_word.Statement.{statement}
 use Rattle.words.proofs.flags.flag_word.Tie as tie
