@@ -9,22 +9,21 @@ ghost use Rattle.line_exports.specs.Exports.{refusedLine, writtenIn};
 use record_line::LineError;
 use record_line::LineResult;
 
-// How many bytes of the lent run are the line; or 0, a refusal's number and what it carries.
+// 0, and how many bytes of the lent run are the line; or a refusal's number, and what it carries. Two words, which C on x86-64 and on AArch64
+// gives back in registers: a longer struct goes through a pointer, and the two do not pass that alike.
 #[repr(C)]
 pub struct Written {
-    pub size: u64,
     pub number: u64,
-    pub carried: u64,
+    pub value: u64,
 }
 
-// A refusal as it is told: no bytes, its number, and what it carries.
+// A refusal as it is told: its number, and what it carries.
 fn refused_line(error: LineError) -> Written
     ensures { λ r. ⌜ r ≡ refusedLine (lineRefusalNumber error) (lineRefusalValue error) ⌝ }
 {
     Written {
-        size: 0,
         number: error.number(),
-        carried: error.value(),
+        value: error.value(),
     }
 }
 
@@ -36,9 +35,8 @@ pub extern "C" fn psci_line(number: usize, regs: &[u64; 4], out: &mut [u8; 80]) 
     let r = *regs;
     match record_line::line(number, r, out) {
         LineResult::Ok(size) => Written {
-            size: size as u64,
             number: 0,
-            carried: 0,
+            value: size as u64,
         },
         LineResult::Err(error) => refused_line(error),
     }

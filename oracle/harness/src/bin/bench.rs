@@ -60,7 +60,7 @@ extern "C" fn nothing<const I: usize, const O: usize>(_: &[u64; I], _: &mut [u64
 }
 
 extern "C" fn no_line(_: usize, _: &[u64; 4], _: &mut [u8; 80]) -> Written {
-    Written { size: 0, number: 0, carried: 0 }
+    Written { number: 0, value: 0 }
 }
 
 /// A C pointer: what it is asked, and what is lent to it.
@@ -93,7 +93,7 @@ impl Call for Line {
     fn make(self, (number, regs): &(usize, [u64; 4]), lent: &mut [u8; 80]) -> u64 {
         let r = self(*number, regs, lent);
         let digits = black_box(&*lent)[16..24].try_into().unwrap();
-        r.size ^ r.number ^ r.carried ^ u64::from_le_bytes(digits)
+        r.number ^ r.value ^ u64::from_le_bytes(digits)
     }
 }
 
