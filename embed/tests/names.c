@@ -1,0 +1,218 @@
+/* names: every name of psci.h, on values put down from document 01: each call by its tag and parts, each function by its place, each refusal.
+ * Prints how many cases there were; a case that fails is named on standard error. In C11 and in C++11. */
+#include <inttypes.h>
+#include <stdio.h>
+#include <string.h>
+
+#include "psci.h"
+
+/* A part by its place in the nine words; place 0, that of the tag, ends the list. */
+struct part {
+    int place;
+    uint64_t value;
+};
+
+/* Registers of which nothing is ignored, and the call that they make. */
+static const struct {
+    uint64_t regs[PSCI_REGISTERS];
+    uint64_t tag;
+    struct part parts[PSCI_CALL_WORDS];
+} calls[] = {
+    {{0x84000000, 0, 0, 0}, PSCI_TAG_VERSION, {{0, 0}}},
+    {{0x84000001, 0x40000002, 0x80000, 9},
+     PSCI_TAG_CPU_SUSPEND,
+     {{PSCI_CPU_SUSPEND_STATE + PSCI_POWER_STATE_DOWN, 1},
+      {PSCI_CPU_SUSPEND_STATE + PSCI_POWER_STATE_ID, 2},
+      {PSCI_CPU_SUSPEND_ENTRY + PSCI_ENTRY_FORM, 0},
+      {PSCI_CPU_SUSPEND_ENTRY + PSCI_ENTRY_ADDRESS, 0x80000},
+      {PSCI_CPU_SUSPEND_ENTRY + PSCI_ENTRY_CONTEXT, 9}}},
+    {{0x84000002, 0, 0, 0}, PSCI_TAG_CPU_OFF, {{0, 0}}},
+    {{0xc4000003, 0x400030201, 0xffff000000080000, 0xffff000000000009},
+     PSCI_TAG_CPU_ON,
+     {{PSCI_CPU_ON_TARGET_CPU + PSCI_MPIDR_HAS_AFF3, 1},
+      {PSCI_CPU_ON_TARGET_CPU + PSCI_MPIDR_AFF3, 4},
+      {PSCI_CPU_ON_TARGET_CPU + PSCI_MPIDR_AFF2, 3},
+      {PSCI_CPU_ON_TARGET_CPU + PSCI_MPIDR_AFF1, 2},
+      {PSCI_CPU_ON_TARGET_CPU + PSCI_MPIDR_AFF0, 1},
+      {PSCI_CPU_ON_ENTRY + PSCI_ENTRY_FORM, 1},
+      {PSCI_CPU_ON_ENTRY + PSCI_ENTRY_ADDRESS, 0xffff000000080000},
+      {PSCI_CPU_ON_ENTRY + PSCI_ENTRY_CONTEXT, 0xffff000000000009}}},
+    {{0x84000004, 0x030201, 2, 0},
+     PSCI_TAG_AFFINITY_INFO,
+     {{PSCI_AFFINITY_INFO_MPIDR + PSCI_MPIDR_AFF2, 3},
+      {PSCI_AFFINITY_INFO_MPIDR + PSCI_MPIDR_AFF1, 2},
+      {PSCI_AFFINITY_INFO_MPIDR + PSCI_MPIDR_AFF0, 1},
+      {PSCI_AFFINITY_INFO_LEVEL, 2}}},
+    {{0x84000005, 0x030201, 0, 0},
+     PSCI_TAG_MIGRATE,
+     {{PSCI_MIGRATE_TARGET_AFFINITY + PSCI_MPIDR_AFF2, 3},
+      {PSCI_MIGRATE_TARGET_AFFINITY + PSCI_MPIDR_AFF1, 2},
+      {PSCI_MIGRATE_TARGET_AFFINITY + PSCI_MPIDR_AFF0, 1}}},
+    {{0x84000006, 0, 0, 0}, PSCI_TAG_MIGRATE_INFO_TYPE, {{0, 0}}},
+    {{0x84000007, 0, 0, 0}, PSCI_TAG_MIGRATE_INFO_UP_CPU, {{PSCI_MIGRATE_INFO_UP_CPU_IS_32BIT, 1}}},
+    {{0xc4000007, 0, 0, 0}, PSCI_TAG_MIGRATE_INFO_UP_CPU, {{PSCI_MIGRATE_INFO_UP_CPU_IS_32BIT, 0}}},
+    {{0x84000008, 0, 0, 0}, PSCI_TAG_SYSTEM_OFF, {{0, 0}}},
+    {{0xc4000015, 1, 0xffff000000000007, 0},
+     PSCI_TAG_SYSTEM_OFF2,
+     {{PSCI_SYSTEM_OFF2_TYPE, 0},
+      {PSCI_SYSTEM_OFF2_COOKIE + PSCI_COOKIE_FORM, 1},
+      {PSCI_SYSTEM_OFF2_COOKIE + PSCI_COOKIE_WORD, 0xffff000000000007}}},
+    {{0x84000009, 0, 0, 0}, PSCI_TAG_SYSTEM_RESET, {{0, 0}}},
+    {{0xc4000012, 0x80000005, 7, 0},
+     PSCI_TAG_SYSTEM_RESET2,
+     {{PSCI_SYSTEM_RESET2_TYPE + PSCI_RESET_VENDOR, 1},
+      {PSCI_SYSTEM_RESET2_TYPE + PSCI_RESET_TYPE, 5},
+      {PSCI_SYSTEM_RESET2_COOKIE + PSCI_COOKIE_FORM, 1},
+      {PSCI_SYSTEM_RESET2_COOKIE + PSCI_COOKIE_WORD, 7}}},
+    {{0x84000012, 0, 7, 0}, PSCI_TAG_SYSTEM_RESET2, {{PSCI_SYSTEM_RESET2_COOKIE + PSCI_COOKIE_WORD, 7}}},
+    {{0x84000013, 1, 0, 0}, PSCI_TAG_MEM_PROTECT, {{PSCI_MEM_PROTECT_ENABLED, 1}}},
+    {{0xc4000014, 0xffff000000000001, 0x2000, 0},
+     PSCI_TAG_MEM_PROTECT_CHECK_RANGE,
+     {{PSCI_MEM_PROTECT_CHECK_RANGE_RANGE + PSCI_RANGE_FORM, 1},
+      {PSCI_MEM_PROTECT_CHECK_RANGE_RANGE + PSCI_RANGE_BASE, 0xffff000000000001},
+      {PSCI_MEM_PROTECT_CHECK_RANGE_RANGE + PSCI_RANGE_LENGTH, 0x2000}}},
+    {{0x8400000a, 0x80000000, 0, 0}, PSCI_TAG_FEATURES, {{PSCI_FEATURES_FEATURE + PSCI_FEATURE_SMCCC, 1}}},
+    {{0x8400000b, 0, 0, 0}, PSCI_TAG_CPU_FREEZE, {{0, 0}}},
+    {{0x8400000c, 0x80000, 9, 0},
+     PSCI_TAG_CPU_DEFAULT_SUSPEND,
+     {{PSCI_CPU_DEFAULT_SUSPEND_ENTRY + PSCI_ENTRY_ADDRESS, 0x80000}, {PSCI_CPU_DEFAULT_SUSPEND_ENTRY + PSCI_ENTRY_CONTEXT, 9}}},
+    {{0x8400000d, 0x030201, 0xffffffff, 0},
+     PSCI_TAG_NODE_HW_STATE,
+     {{PSCI_NODE_HW_STATE_TARGET_CPU + PSCI_MPIDR_AFF2, 3},
+      {PSCI_NODE_HW_STATE_TARGET_CPU + PSCI_MPIDR_AFF1, 2},
+      {PSCI_NODE_HW_STATE_TARGET_CPU + PSCI_MPIDR_AFF0, 1},
+      {PSCI_NODE_HW_STATE_LEVEL, 0xffffffff}}},
+    {{0xc400000e, 0x80000, 9, 0},
+     PSCI_TAG_SYSTEM_SUSPEND,
+     {{PSCI_SYSTEM_SUSPEND_ENTRY + PSCI_ENTRY_FORM, 1},
+      {PSCI_SYSTEM_SUSPEND_ENTRY + PSCI_ENTRY_ADDRESS, 0x80000},
+      {PSCI_SYSTEM_SUSPEND_ENTRY + PSCI_ENTRY_CONTEXT, 9}}},
+    {{0x8400000f, 1, 0, 0}, PSCI_TAG_SET_SUSPEND_MODE, {{PSCI_SET_SUSPEND_MODE_MODE, 1}}},
+    {{0x84000010, 0x030201, 0x40000002, 0},
+     PSCI_TAG_STAT_RESIDENCY,
+     {{PSCI_STAT_RESIDENCY_TARGET_CPU + PSCI_MPIDR_AFF2, 3},
+      {PSCI_STAT_RESIDENCY_TARGET_CPU + PSCI_MPIDR_AFF1, 2},
+      {PSCI_STAT_RESIDENCY_TARGET_CPU + PSCI_MPIDR_AFF0, 1},
+      {PSCI_STAT_RESIDENCY_STATE + PSCI_POWER_STATE_DOWN, 1},
+      {PSCI_STAT_RESIDENCY_STATE + PSCI_POWER_STATE_ID, 2}}},
+    {{0xc4000011, 0, 2, 0},
+     PSCI_TAG_STAT_COUNT,
+     {{PSCI_STAT_COUNT_TARGET_CPU + PSCI_MPIDR_HAS_AFF3, 1}, {PSCI_STAT_COUNT_STATE + PSCI_POWER_STATE_ID, 2}}},
+};
+
+/* A function that can be asked about: its number and its place. */
+static const struct {
+    uint64_t number;
+    uint64_t place;
+} functions[] = {
+    {0x84000000, PSCI_PLACE_PSCI_VERSION},          {0x84000001, PSCI_PLACE_CPU_SUSPEND_32},
+    {0xc4000001, PSCI_PLACE_CPU_SUSPEND_64},        {0x84000002, PSCI_PLACE_CPU_OFF},
+    {0x84000003, PSCI_PLACE_CPU_ON_32},             {0xc4000003, PSCI_PLACE_CPU_ON_64},
+    {0x84000004, PSCI_PLACE_AFFINITY_INFO_32},      {0xc4000004, PSCI_PLACE_AFFINITY_INFO_64},
+    {0x84000005, PSCI_PLACE_MIGRATE_32},            {0xc4000005, PSCI_PLACE_MIGRATE_64},
+    {0x84000006, PSCI_PLACE_MIGRATE_INFO_TYPE},     {0x84000007, PSCI_PLACE_MIGRATE_INFO_UP_CPU_32},
+    {0xc4000007, PSCI_PLACE_MIGRATE_INFO_UP_CPU_64}, {0x84000008, PSCI_PLACE_SYSTEM_OFF},
+    {0x84000009, PSCI_PLACE_SYSTEM_RESET},          {0x8400000a, PSCI_PLACE_PSCI_FEATURES},
+    {0x8400000b, PSCI_PLACE_CPU_FREEZE},            {0x8400000c, PSCI_PLACE_CPU_DEFAULT_SUSPEND_32},
+    {0xc400000c, PSCI_PLACE_CPU_DEFAULT_SUSPEND_64}, {0x8400000d, PSCI_PLACE_NODE_HW_STATE_32},
+    {0xc400000d, PSCI_PLACE_NODE_HW_STATE_64},      {0x8400000e, PSCI_PLACE_SYSTEM_SUSPEND_32},
+    {0xc400000e, PSCI_PLACE_SYSTEM_SUSPEND_64},     {0x8400000f, PSCI_PLACE_PSCI_SET_SUSPEND_MODE},
+    {0x84000010, PSCI_PLACE_PSCI_STAT_RESIDENCY_32}, {0xc4000010, PSCI_PLACE_PSCI_STAT_RESIDENCY_64},
+    {0x84000011, PSCI_PLACE_PSCI_STAT_COUNT_32},    {0xc4000011, PSCI_PLACE_PSCI_STAT_COUNT_64},
+    {0x84000012, PSCI_PLACE_SYSTEM_RESET2_32},      {0xc4000012, PSCI_PLACE_SYSTEM_RESET2_64},
+    {0x84000013, PSCI_PLACE_MEM_PROTECT},           {0x84000014, PSCI_PLACE_MEM_PROTECT_CHECK_RANGE_32},
+    {0xc4000014, PSCI_PLACE_MEM_PROTECT_CHECK_RANGE_64}, {0x84000015, PSCI_PLACE_SYSTEM_OFF2_32},
+    {0xc4000015, PSCI_PLACE_SYSTEM_OFF2_64},
+};
+
+/* Registers that are refused: the number and what it carries. */
+static const struct {
+    uint64_t regs[PSCI_REGISTERS];
+    uint64_t number, carried;
+} refused[] = {
+    {{0xffffffff84000016, 0, 0, 0}, PSCI_UNRECOGNISED_FUNCTION_ID, 0x84000016},
+    {{0x84000001, 0xffffffff50000000, 0, 0}, PSCI_INVALID_POWER_STATE, 0x50000000},
+    {{0x84000003, 0xffffffff01000000, 0, 0}, PSCI_INVALID_MPIDR_32, 0x01000000},
+    {{0xc4000003, 0xffffffff01000000, 0, 0}, PSCI_INVALID_MPIDR_64, 0xffffffff01000000},
+    {{0x84000004, 0xff000000, 3, 0}, PSCI_INVALID_LOWER_AFFINITY_LEVEL, 3},
+    {{0x84000015, 0, 0, 0}, PSCI_UNRECOGNISED_SYSTEM_OFF2_TYPE, 0},
+    {{0x84000012, 1, 0, 0}, PSCI_UNRECOGNISED_SYSTEM_RESET2_TYPE, 1},
+    {{0x8400000f, 2, 0, 0}, PSCI_UNRECOGNISED_SUSPEND_MODE, 2},
+};
+
+/* Words of a call that can't be written: the number and what it carries. */
+static const struct {
+    uint64_t call[PSCI_CALL_WORDS];
+    uint64_t number, carried;
+} unwritten[] = {
+    {{PSCI_TAG_CPU_ON, 0, 0, 3, 2, 1, 1, 0x80000, 9}, PSCI_MIXED_CALL_FORMS, 0},
+    {{PSCI_TAG_CPU_SUSPEND, 0, 0x10000000, 0, 0, 0, 0, 0, 0}, PSCI_INVALID_STATE_ID, 0x10000000},
+    {{PSCI_TAG_STAT_COUNT + 1, 0, 0, 0, 0, 0, 0, 0, 0}, PSCI_UNKNOWN_TAG, 22},
+    {{PSCI_TAG_MEM_PROTECT, 2, 0, 0, 0, 0, 0, 0, 0}, PSCI_WRONG_PART, 0},
+    {{PSCI_TAG_CPU_OFF, 0, 0, 0, 0, 0, 0, 0, 1}, PSCI_WRONG_PART, 0},
+};
+
+static int cases, failed;
+
+static void check(int good, const char *what, uint64_t which) {
+    cases++;
+    if (!good) {
+        failed++;
+        fprintf(stderr, "names: %s %" PRIx64 "\n", what, which);
+    }
+}
+
+static int is(struct psci_refusal refusal, uint64_t number, uint64_t carried) {
+    return refusal.number == number && refusal.carried == carried;
+}
+
+/* The registers decode to these nine words, and the words encode to the registers. */
+static int same(const uint64_t regs[PSCI_REGISTERS], const uint64_t call[PSCI_CALL_WORDS]) {
+    uint64_t decoded[PSCI_CALL_WORDS], words[PSCI_REGISTERS];
+    memset(decoded, 0xa5, sizeof decoded);
+    memset(words, 0xa5, sizeof words);
+    return is(psci_decode(regs, decoded), PSCI_ACCEPTED, 0) && memcmp(decoded, call, sizeof decoded) == 0 &&
+           is(psci_encode(call, words), PSCI_ACCEPTED, 0) && memcmp(words, regs, sizeof words) == 0;
+}
+
+#define COUNT(list) (sizeof(list) / sizeof(list)[0])
+
+int main(void) {
+    uint64_t call[PSCI_CALL_WORDS], words[PSCI_REGISTERS];
+    uint8_t line[PSCI_LINE_BYTES];
+
+    for (size_t i = 0; i < COUNT(calls); i++) {
+        memset(call, 0, sizeof call);
+        call[0] = calls[i].tag;
+        for (const struct part *part = calls[i].parts; part < calls[i].parts + PSCI_CALL_WORDS && part->place != 0; part++)
+            call[part->place] = part->value;
+        check(same(calls[i].regs, call), "call", calls[i].regs[0]);
+    }
+    for (size_t i = 0; i < COUNT(functions); i++) {
+        const uint64_t regs[PSCI_REGISTERS] = {0x8400000a, functions[i].number, 0, 0};
+        memset(call, 0, sizeof call);
+        call[0] = PSCI_TAG_FEATURES;
+        call[PSCI_FEATURES_FEATURE + PSCI_FEATURE_PLACE] = functions[i].place;
+        check(same(regs, call), "function", functions[i].number);
+    }
+    for (size_t i = 0; i < COUNT(refused); i++) {
+        check(is(psci_decode(refused[i].regs, call), refused[i].number, refused[i].carried), "refusal", refused[i].number);
+        check(is(psci_recode(refused[i].regs, words), refused[i].number, refused[i].carried), "refusal of recode", refused[i].number);
+    }
+    for (size_t i = 0; i < COUNT(unwritten); i++)
+        check(is(psci_encode(unwritten[i].call, words), unwritten[i].number, unwritten[i].carried), "refusal", unwritten[i].number);
+
+    memset(call, 0, sizeof call);
+    call[0] = PSCI_TAG_SYSTEM_OFF2;
+    call[PSCI_SYSTEM_OFF2_TYPE] = 1; /* there is one off type, and its part is 0 */
+    check(is(psci_encode(call, words), PSCI_WRONG_PART, 0), "refusal", PSCI_WRONG_PART);
+
+    const uint64_t off[PSCI_REGISTERS] = {0x84000002, 0, 0, 0};
+    struct psci_written written = psci_line(PSCI_LAST_RECORD, off, line);
+    check(written.number == PSCI_ACCEPTED && written.value == strlen("1899 ok") + 4 * 17 + 1, "line", PSCI_LAST_RECORD);
+    written = psci_line(PSCI_LAST_RECORD + 1, off, line);
+    check(written.number == PSCI_BAD_NUMBER && written.value == PSCI_LAST_RECORD + 1, "line", PSCI_LAST_RECORD + 1);
+
+    printf("%d cases, %d failed\n", cases, failed);
+    return failed != 0;
+}
