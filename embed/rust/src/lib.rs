@@ -1,0 +1,44 @@
+//! PSCI power calls, decoded and encoded by proved code, with the type, variant and method names of the crate arm-psci.
+//!
+//! A register set becomes a [`Function`] by `Function::try_from(&regs)`, and a `Function` becomes four words by
+//! [`Function::copy_to_array`]. Each goes through the archives that Rattle proves: this crate moves a call's parts to and from the nine words in
+//! which the archives hand it over, and decides nothing. So do the words that stand in a call: a power state is read as that of a CPU
+//! suspend, an MPIDR as that of a migrate. What no call carries (codes, versions, states, flags, and what [`Mpidr`] has besides), the numbers of
+//! enums without data, and [`EntryPoint`]'s accessors are plain Rust as in arm-psci.
+//!
+//! ```
+//! use rampcomfrey::{Function, FunctionId};
+//!
+//! let call = Function::try_from(&[0xffff_ffff_8400_0002, 7, 0, 0])?;
+//! assert_eq!(call, Function::CpuOff);
+//! assert_eq!(call.function_id()?, FunctionId::CpuOff);
+//!
+//! let mut words = [0; 4];
+//! call.copy_to_array(&mut words)?;
+//! assert_eq!(words, [0x8400_0002, 0, 0, 0]);
+//! # Ok::<(), rampcomfrey::Error>(())
+//! ```
+//!
+//! Where arm-psci panics, this crate gives an [`Error`]; docs/EMBEDDING.md lists what firmware has to change for that. There is no state: all
+//! cores may call at once.
+#![no_std]
+#![deny(missing_docs)]
+#![deny(unsafe_op_in_unsafe_fn)]
+
+mod answers;
+mod archive;
+mod error;
+mod fields;
+mod function;
+mod function_id;
+mod line;
+mod parts;
+
+pub use answers::{AffinityInfo, ErrorCode, FeatureFlagsCpuSuspend, FeatureFlagsSystemOff2, HwState, MigrateInfoType, ReturnCode, Version};
+pub use error::Error;
+pub use fields::{
+    ArchitecturalResetType, Cookie, EntryPoint, MemProtectRange, Mpidr, PowerState, PsciFeature, ResetType, SuspendMode, SystemOff2Type,
+};
+pub use function::{recode, Function};
+pub use function_id::FunctionId;
+pub use line::{line, BadNumber};

@@ -1,0 +1,149 @@
+//! The parts in which the archives hand over the fields of a call, embed/include/psci.h's enum psci_part. Nothing is decided here: a part goes
+//! to its place and back, cut to the width that it has there. All of it is inlined, so that the compiler sees the parts to be there and leaves
+//! no path to a panic.
+use crate::{ArchitecturalResetType, Cookie, EntryPoint, Error, FunctionId, MemProtectRange, Mpidr, PowerState, PsciFeature, ResetType, SuspendMode};
+
+/// The exports' own refusals: a tag that no call has, a part that has no room in its place.
+pub const UNKNOWN_TAG: u64 = 1002;
+const WRONG_PART: u64 = 1003;
+
+/// Whether affinity 3 is there, then affinities 3 to 0.
+#[inline(always)]
+pub fn of_mpidr(mpidr: Mpidr) -> [u64; 5] {
+    let Mpidr { aff0, aff1, aff2, aff3 } = mpidr;
+    [aff3.is_some().into(), aff3.unwrap_or(0).into(), aff2.into(), aff1.into(), aff0.into()]
+}
+
+#[inline(always)]
+pub fn mpidr(p: &[u64]) -> Mpidr {
+    let aff3 = if p[0] == 0 { None } else { Some(p[1] as u8) };
+    Mpidr { aff0: p[4] as u8, aff1: p[3] as u8, aff2: p[2] as u8, aff3 }
+}
+
+/// 1 for power down; the state ID.
+#[inline(always)]
+pub fn of_power_state(state: PowerState) -> [u64; 2] {
+    match state {
+        PowerState::StandbyOrRetention(id) => [0, id.into()],
+        PowerState::PowerDown(id) => [1, id.into()],
+    }
+}
+
+#[inline(always)]
+pub fn power_state(p: &[u64]) -> PowerState {
+    let id = p[1] as u32;
+    if p[0] == 0 {
+        PowerState::StandbyOrRetention(id)
+    } else {
+        PowerState::PowerDown(id)
+    }
+}
+
+/// The form, the address, the context.
+#[inline(always)]
+pub fn of_entry(entry: EntryPoint) -> [u64; 3] {
+    match entry {
+        EntryPoint::Entry32 { entry_point_address, context_id } => [0, entry_point_address.into(), context_id.into()],
+        EntryPoint::Entry64 { entry_point_address, context_id } => [1, entry_point_address, context_id],
+    }
+}
+
+#[inline(always)]
+pub fn entry(p: &[u64]) -> EntryPoint {
+    if p[0] == 0 {
+        EntryPoint::Entry32 { entry_point_address: p[1] as u32, context_id: p[2] as u32 }
+    } else {
+        EntryPoint::Entry64 { entry_point_address: p[1], context_id: p[2] }
+    }
+}
+
+/// The form, the cookie.
+#[inline(always)]
+pub fn of_cookie(cookie: Cookie) -> [u64; 2] {
+    match cookie {
+        Cookie::Cookie32(word) => [0, word.into()],
+        Cookie::Cookie64(word) => [1, word],
+    }
+}
+
+#[inline(always)]
+pub fn cookie(p: &[u64]) -> Cookie {
+    if p[0] == 0 {
+        Cookie::Cookie32(p[1] as u32)
+    } else {
+        Cookie::Cookie64(p[1])
+    }
+}
+
+/// The form, the base, the length.
+#[inline(always)]
+pub fn of_range(range: MemProtectRange) -> [u64; 3] {
+    match range {
+        MemProtectRange::Range32 { base, length } => [0, base.into(), length.into()],
+        MemProtectRange::Range64 { base, length } => [1, base, length],
+    }
+}
+
+#[inline(always)]
+pub fn range(p: &[u64]) -> MemProtectRange {
+    if p[0] == 0 {
+        MemProtectRange::Range32 { base: p[1] as u32, length: p[2] as u32 }
+    } else {
+        MemProtectRange::Range64 { base: p[1], length: p[2] }
+    }
+}
+
+/// 1 for a vendor's; its type.
+#[inline(always)]
+pub fn of_reset_type(reset_type: ResetType) -> [u64; 2] {
+    match reset_type {
+        ResetType::Architectural(ArchitecturalResetType::SystemWarmReset) => [0, 0],
+        ResetType::VendorSpecific(vendor) => [1, vendor.into()],
+    }
+}
+
+#[inline(always)]
+pub fn reset_type(p: &[u64]) -> ResetType {
+    if p[0] == 0 {
+        ResetType::Architectural(ArchitecturalResetType::SystemWarmReset)
+    } else {
+        ResetType::VendorSpecific(p[1] as u32)
+    }
+}
+
+/// 1 for the SMCCC version; the function's place.
+#[inline(always)]
+pub fn of_feature(feature: PsciFeature) -> [u64; 2] {
+    match feature {
+        PsciFeature::PsciFunction(id) => [0, place_of(id)],
+        PsciFeature::SmcccVersion => [1, 0],
+    }
+}
+
+/// The place of a function in the list of all, in which each stands.
+#[inline(always)]
+fn place_of(id: FunctionId) -> u64 {
+    FunctionId::PLACES.iter().take_while(|other| **other != id).count() as u64
+}
+
+/// A place that no function has is refused; the archives give none.
+#[inline(always)]
+pub fn feature(p: &[u64]) -> Result<PsciFeature, Error> {
+    if p[0] != 0 {
+        return Ok(PsciFeature::SmcccVersion);
+    }
+    match FunctionId::PLACES.get(p[1] as usize) {
+        Some(id) => Ok(PsciFeature::PsciFunction(*id)),
+        None => Err(Error::Unnamed { number: WRONG_PART, value: p[1] }),
+    }
+}
+
+/// The mode's place, which is its number.
+#[inline(always)]
+pub fn suspend_mode(part: u64) -> SuspendMode {
+    if part == 0 {
+        SuspendMode::PlatformCoordinated
+    } else {
+        SuspendMode::OsInitiated
+    }
+}
