@@ -1,12 +1,12 @@
-//! Hands the programs `direct` and `bench` the archives that they call: `rt staticlib` wrote them to RATTLE_LIB_DIR, or to the repository's
+//! Hands the programs `direct` and `bench` the archives that they call: `rt staticlib` wrote them to PSCI_LIB_DIR, or to the repository's
 //! own folder.
 fn main() {
-    println!("cargo:rerun-if-env-changed=RATTLE_LIB_DIR");
+    println!("cargo:rerun-if-env-changed=PSCI_LIB_DIR");
     if std::env::var_os("CARGO_FEATURE_RATTLE").is_none() {
         return;
     }
     let here = std::env::var("CARGO_MANIFEST_DIR").unwrap();
-    let dir = std::env::var("RATTLE_LIB_DIR").unwrap_or(format!("{here}/../../target/staticlib"));
+    let dir = std::env::var("PSCI_LIB_DIR").unwrap_or(format!("{here}/../../target/staticlib"));
     for archive in ["call_exports", "line_exports"] {
         println!("cargo:rerun-if-changed={dir}/lib{archive}.a");
         for bin in ["direct", "bench"] {

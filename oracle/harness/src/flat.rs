@@ -1,8 +1,8 @@
 //! A typed call as nine words, `[tag, part, ..]`, and back. A tag is the case's place in the declaration of `Function`; a
 //! case of an enum without data is its place in its list below. Parts: MPIDR `present aff3 aff2 aff1 aff0`; power state `down id`;
 //! entry, cookie, range `is64 value..`; reset type `vendor value`; feature `smccc place`. The parts are cut to their places here;
-//! `lib.rs` holds the words that come back against those that were asked.
-use arm_psci::*;
+//! `answers.rs` holds the words that come back against those that were asked.
+use super::psci::*;
 
 pub type Flat = [u64; 9];
 

@@ -1,0 +1,39 @@
+//! The crate in embed/rust, over the proved archives. That answers.rs and flat.rs build over it as over arm-psci shows that the types, variants and
+//! methods which they use have the same names, but for the departures.
+pub use rampcomfrey as psci;
+
+#[path = "answers.rs"]
+pub mod answers;
+#[path = "flat.rs"]
+pub mod flat;
+
+/// What firmware has to change: four methods and conversions give an error where arm-psci panics, and `Error` has a case for each panic.
+pub mod departures {
+    use super::answers::{self, No};
+    use rampcomfrey::*;
+
+    pub fn refusal(error: Error) -> No {
+        match error {
+            Error::MixedCallForms => (14, 0),
+            Error::InvalidStateId(id) => (15, id.into()),
+            Error::InvalidMajorVersion(major) => (16, major.into()),
+            other => unreachable!("{other:?} is not in document 01"),
+        }
+    }
+
+    pub fn function_id(call: Function) -> Result<FunctionId, No> {
+        call.function_id().map_err(answers::refusal)
+    }
+
+    pub fn copy_to_array(call: Function, out: &mut [u64; 4]) -> Result<(), No> {
+        call.copy_to_array(out).map_err(answers::refusal)
+    }
+
+    pub fn power_state_word(state: PowerState) -> Result<u32, No> {
+        u32::try_from(state).map_err(answers::refusal)
+    }
+
+    pub fn version_word(version: Version) -> Result<u32, No> {
+        u32::try_from(version).map_err(answers::refusal)
+    }
+}
