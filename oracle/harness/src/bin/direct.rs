@@ -23,6 +23,12 @@ fn compare(q: &Record) -> bool {
             let (mut out, words) = ([!0; 4], if want.refusal == 0 { again.regs } else { [!0; 4] });
             let got = rattle::psci_recode(&q.regs, &mut out);
             expect("decode then encode", q, (refusal, words), (got, out));
+            if want.refusal == 0 {
+                // nine words that decode gave are a call
+                let mut out = [!0; 4];
+                let got = rattle::psci_encode(&call, &mut out);
+                expect("encode of what decode gave", q, (refusal, words), (got, out));
+            }
             let (mut text, number) = ([0xaa; 80], q.regs[1] as usize % (line::MAX_NUMBER + 10));
             let got = rattle::psci_line(number, &q.regs, &mut text);
             expect("line", q, line::judged(number, &q.regs, [0xaa; 80]), (got, text));
