@@ -1,5 +1,6 @@
 //! The parts in which the archives hand over the fields of a call, embed/include/psci.h's enum psci_part. Nothing is decided here: a part goes
-//! to its place and back, cut to the width that it has there. All of it is inlined, so that the compiler sees the parts to be there and leaves
+//! to its place and back, cut to the width that it has there: `of_mpidr` gives the parts of an MPIDR, `mpidr` the MPIDR of its parts, and so on.
+//! A reader takes at least as many parts as the field has. All of it is inlined, so that the compiler sees the parts to be there and leaves
 //! no path to a panic.
 use crate::{ArchitecturalResetType, Cookie, EntryPoint, Error, FunctionId, MemProtectRange, Mpidr, PowerState, PsciFeature, ResetType, SuspendMode};
 
