@@ -12,6 +12,7 @@ pub mod published;
 pub mod rattle;
 pub mod sheet;
 pub mod sweep;
+pub mod tally;
 
 pub use published::answers::{answer as oracle, refusal};
 pub use published::departures::quiet_panics;

@@ -1,24 +1,9 @@
 //! `stream PLAN [SEED COUNT] | replay`: the Rust's answers to a plan's questions, as records of 128 bytes on standard output.
 //! `stream sweep numbers|READER [BITS] | replay`: 2^BITS words, by default 2^32, to decode as function numbers or to the reader with that
 //! operation, as blocks with a digest. The number of records or blocks and the tally of refusals go to standard error.
-use harness::{Record, inputs, op, oracle, quiet_panics, sweep};
+use harness::tally::Tally;
+use harness::{inputs, op, oracle, quiet_panics, sweep};
 use std::io::Write;
-
-#[derive(Default)]
-struct Tally {
-    seen: [u64; 17],
-    other: u64,
-}
-
-impl Tally {
-    #[inline]
-    fn note(&mut self, answer: &Record) {
-        match self.seen.get_mut(answer.refusal as usize) {
-            Some(n) => *n += 1,
-            None => self.other += 1,
-        }
-    }
-}
 
 fn plan(name: &str, seed: u64, count: u64, tally: &mut Tally, out: &mut impl Write) -> String {
     let mut records = 0u64;
@@ -51,5 +36,5 @@ fn main() {
         name => plan(name, number(1, 0), number(2, 0), &mut tally, &mut out),
     };
     out.flush().unwrap();
-    eprintln!("{told}; accepted {}, refusals 1 to 16 {:?}, a record's own {}", tally.seen[0], &tally.seen[1..], tally.other);
+    eprintln!("{told}; {tally}");
 }

@@ -1,6 +1,7 @@
 //! `vectors SEED COUNT > FILE`: the recorded list. COUNT records, a third each of decode, of encode and function number, and of
-//! words; half of each third from the boundary plan, thinned evenly, half random; then two of each refusal 1 to 16 if fewer came. One
+//! words; half of each third from the boundary plan, thinned evenly, half random; then two of each refusal if fewer came. One
 //! more record, in the middle, is planted wrong: a program that says of the list that no record differs has not compared it.
+use harness::tally::Tally;
 use harness::{Record, inputs, op, oracle, quiet_panics};
 use std::io::Write;
 
@@ -39,14 +40,14 @@ fn main() {
         list.extend(thinned(part, &format!("{name}-bounds")));
         inputs::plan(name, seed, part, &mut |q| list.push(q));
     }
-    let mut seen = [0u64; 17];
+    let mut tally = Tally::default();
     let mut answers: Vec<Record> = list.iter().map(oracle).collect();
-    answers.iter().for_each(|a| seen[a.refusal as usize] += 1);
+    answers.iter().for_each(|a| tally.note(a));
     for name in ["decode-bounds", "encode-bounds", "words-bounds"] {
         inputs::plan(name, 0, 0, &mut |q| {
             let a = oracle(&q);
-            if seen[a.refusal as usize] < 2 {
-                seen[a.refusal as usize] += 1;
+            if tally.times(&a) < 2 {
+                tally.note(&a);
                 answers.push(a);
             }
         });
@@ -54,5 +55,5 @@ fn main() {
     let planted = plant(&mut answers);
     let mut out = std::io::BufWriter::new(std::io::stdout().lock());
     answers.iter().for_each(|a| out.write_all(&a.bytes()).unwrap());
-    eprintln!("{} records, that at {planted} planted wrong; of the others accepted {}, refusals 1 to 16 {:?}", answers.len(), seen[0], &seen[1..]);
+    eprintln!("{} records, that at {planted} planted wrong; of the others {tally}", answers.len());
 }
