@@ -10,6 +10,10 @@ use Rattle.refusals.specs.Answers.{Answer, accepted, refused, through, a
 pub not-accepted : {A B : Type 0} {number : ℕ} {value : ℤ} {a : A} → _≡_ {A = Answer A} (refused number value) (accepted a) → B
 not-accepted q = let z : _≡_ {A = ℕ} 0 1 = cc in absurd (omega arith)
 
+-- what is accepted is one thing
+pub same-accepted : {A : Type 0} {a b : A} → _≡_ {A = Answer A} (accepted a) (accepted b) → a ≡ b
+same-accepted q = cc
+
 -- what a test let pass
 pub passed : {A : Type 0} (t : Bool) (a b : A) (number : ℕ) (value : ℤ) → cond t (accepted a) (refused number value) ≡ accepted b → (t ≡ true) × (a ≡ b)
 passed true a b number value q = (refl, cc)

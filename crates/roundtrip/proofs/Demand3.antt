@@ -13,6 +13,7 @@ use borrow.Author.Tests.{eqb-true, eqb-false, eq-eqb, ne-eqb}
 use Rattle.bits.proofs.Picks.{choice}
 use Rattle.refusals.specs.Answers.{Answer, accepted}
 use Rattle.refusals.specs.Lent.{left}
+use Rattle.refusals.proofs.Answering.{same-accepted}
 use Rattle.refusals.proofs.Lending.{fronted-all}
 use Rattle.function_ids.specs.CallTable.{Part, lowHalf, whole, partOf, Look, nothing, value, zeroOrNot, keep, numberIn, keptBy}
 use Rattle.roundtrip.specs.Codec.{Codec, Registers, bit, width, InField, AgreeIn, Agree, Inside, wordsIn, OfOne, OfTwo, Demand3}
@@ -160,9 +161,6 @@ module _ (c : Codec) (by : ByTable c) where
         again = ap (c .decode) w ∙ reads r ∙ d;
         clear = λ i j p o. ap (λ (x : List ℕ). bit j (getD x i 0)) w ∙ kept-clear r h i j p (λ q. o (rw w q));
       }
-
-  same-accepted : {A : Type 0} {a b : A} → _≡_ {A = Answer A} (accepted a) (accepted b) → a ≡ b
-  same-accepted e = cc
 
   of-two : (r s : List ℕ) (f g : c .Call) → Registers r → Registers s → c .decode r ≡ accepted f → c .decode s ≡ accepted g →
       (run other : List ℕ) → length run ≡ 4 → length other ≡ 4 → OfTwo c r s f g run other

@@ -3,8 +3,9 @@ use mathlib.Core.Path.{_≡_, refl, sym, ap, _∙_}
 use mathlib.Core.List.{List}
 use Prim.Native.Nat.{ℕ}
 use lib.IntN.{ℤ}
-use Rattle.refusals.specs.Answers.{Answer, accepted, refused}
+use Rattle.refusals.specs.Answers.{accepted, refused}
 use Rattle.refusals.specs.Lent.{left}
+use Rattle.refusals.proofs.Answering.{same-accepted}
 use Rattle.function.specs.declared.Function.{Function}
 use Rattle.decode_definition.specs.Decode.{decodeOf}
 use Rattle.encode_definition.specs.Encode.{encodeOf}
@@ -15,9 +16,6 @@ use Rattle.encode.specs.declared.EncodeResult.the-variants.{Ok}
 use Rattle.roundtrip.specs.Codec.{Registers}
 use Rattle.roundtrip.specs.Recode.{recodeOf}
 use Rattle.roundtrip.proofs.Psci.{demand3-of-01}
-
-same : {a b : List ℕ} → _≡_ {A = Answer (List ℕ)} (accepted a) (accepted b) → a ≡ b
-same e = cc
 
 module _ (regs run : List ℕ) where
   -- a call that was decoded: what encoding it gives and leaves
@@ -32,7 +30,7 @@ module _ (regs run : List ℕ) where
   read-again f r last h d e ok =
       let a : encodeOf f run ≡ accepted last = sym e ∙ ap (λ (x : EncodeResult). encodeAnswer x last) ok in
       let one = demand3-of-01 .of-one regs f h d run (run-of-four f run last a) in
-      ap decodeOf (same (sym a ∙ one .written)) ∙ one .again ∙ sym d
+      ap decodeOf (same-accepted (sym a ∙ one .written)) ∙ one .again ∙ sym d
 
   -- registers that are refused: the refusal is the answer, and the run stays
   pub not-decoded : {number : ℕ} {value : ℤ} → decodeOf regs ≡ refused number value →
