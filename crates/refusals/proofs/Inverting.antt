@@ -1,7 +1,8 @@
--- A writer that never refuses: what it takes to invert a reader, either way. Assumes nothing.
-use mathlib.Core.Path.{_≡_, ap, _∙_}
+-- A writer that never refuses: what it takes to invert a reader, either way. A writer whose words read back keeps values apart. Assumes nothing.
+use mathlib.Core.Path.{_≡_, sym, ap, _∙_}
 use Rattle.refusals.specs.Answers.{Answer, accepted}
-use Rattle.refusals.specs.Inverses.{WritesBack, ReadsBack, always}
+use Rattle.refusals.specs.Inverses.{WritesBack, ReadsBack, Apart, always, Any}
+use Rattle.refusals.proofs.Answering.{same-accepted}
 
 module _ {A W : Type 0} (read : W → Answer A) (write : A → W) where
   pub writes-always : (Word : W → Type 0) → ((w : W) (a : A) → Word w → read w ≡ accepted a → write a ≡ w) → WritesBack Word read (always write)
@@ -9,3 +10,7 @@ module _ {A W : Type 0} (read : W → Answer A) (write : A → W) where
 
   pub reads-always : (Value : A → Type 0) → ((a : A) → Value a → read (write a) ≡ accepted a) → ReadsBack Value (always write) read
   reads-always Value back a w h q = let e : w ≡ write a = cc in ap read e ∙ back a h
+
+-- a word reads as one value
+pub reads-apart : {A W : Type 0} (read : W → Answer A) (write : A → Answer W) → ReadsBack Any write read → Apart write
+reads-apart read write back a b w p q = same-accepted (sym (back a w tt p) ∙ back b w tt q)

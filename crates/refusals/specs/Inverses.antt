@@ -1,4 +1,4 @@
--- What it means that a reader and a writer invert each other.
+-- What it means that a reader and a writer invert each other, and that a writer keeps values apart.
 use mathlib.Core.Path.{_≡_}
 use Prim.Native.Nat.{ℕ, _<_, _^_}
 use Rattle.refusals.specs.Answers.{Answer, accepted}
@@ -10,6 +10,10 @@ WritesBack {A} {W} Word read write = (w : W) (a : A) → Word w → read w ≡ a
 -- what the writer gives for some values, the reader reads back
 abbrev pub ReadsBack : {A W : Type 0} → (A → Type 0) → (A → Answer W) → (W → Answer A) → Type 0
 ReadsBack {A} {W} Value write read = (a : A) (w : W) → Value a → write a ≡ accepted w → read w ≡ accepted a
+
+-- no two values that the writer accepts are written as one word
+abbrev pub Apart : {A W : Type 0} → (A → Answer W) → Type 0
+Apart {A} {W} write = (a b : A) (w : W) → write a ≡ accepted w → write b ≡ accepted w → a ≡ b
 
 -- a writer that never refuses
 abbrev pub always : {A W : Type 0} → (A → W) → A → Answer W
