@@ -25,7 +25,7 @@ pub enum ErrorCodeResult {
 }
 
 impl ErrorCode {
-    // The code of a refusal by document 01's number: 1 becomes −1, every other number −2. It serves the refusals of the log and the line too.
+    // The code of a refusal by its number: 1 becomes −1, every other number −2. It serves the refusals of the log and the line too.
     pub fn from_refusal(number: u64) -> Self
         ensures { λ r. ⌜ r ≡ codeOfRefusal number ⌝ }
     {

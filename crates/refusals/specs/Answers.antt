@@ -1,4 +1,4 @@
--- What an operation gives: the thing asked for, or one of document 01's refusals, by its number and the value that it carries.
+-- What an operation gives: the thing asked for, or one of the papers' refusals, by its number and the value that it carries.
 use mathlib.Core.Bool.{cond}
 use mathlib.Core.List.{List, [], _∷_}
 use Prim.Native.Nat.{ℕ}

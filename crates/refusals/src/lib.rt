@@ -1,4 +1,5 @@
-// What is turned back, and why: document 01, "What is turned back, by operation". The number beside each case is document 01's.
+// What is turned back, and why: document 01, "What is turned back, by operation". The number beside each case is document 01's, above 25
+// that of a request in document 02.
 ghost use mathlib.Core.Path.{_≡_};
 ghost use Rattle.bits.specs.Signs.{wordOf};
 ghost use Rattle.refusals.specs.Errors.{refusalNumber, refusalValue};
@@ -23,10 +24,11 @@ pub enum Error {
     InvalidStateId(u32), // 15
     InvalidMajorVersion(u16), // 16
     WrongLength(usize), // 17
+    InvalidVendorType(u32), // 31
 }
 
 impl Error {
-    // Document 01's number of a refusal.
+    // The papers' number of a refusal.
     pub fn number(self) -> u64
         ensures { λ r. ⌜ r ≡ refusalNumber self ⌝ }
     {
@@ -48,6 +50,7 @@ impl Error {
             Self::InvalidStateId(_) => 15,
             Self::InvalidMajorVersion(_) => 16,
             Self::WrongLength(_) => 17,
+            Self::InvalidVendorType(_) => 31,
         }
     }
 
@@ -73,6 +76,7 @@ impl Error {
             Self::InvalidStateId(value) => value as u64,
             Self::InvalidMajorVersion(value) => value as u64,
             Self::WrongLength(value) => value as u64,
+            Self::InvalidVendorType(value) => value as u64,
         }
     }
 }

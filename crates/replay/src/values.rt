@@ -169,6 +169,7 @@ pub(crate) fn error_in(number: u64, value: u64) -> Error {
         15 => Error::InvalidStateId(low32(value)),
         16 => Error::InvalidMajorVersion(low16(value)),
         17 => Error::WrongLength(value as usize),
+        31 => Error::InvalidVendorType(low32(value)),
         _ => Error::MixedCallForms,
     }
 }
