@@ -65,6 +65,7 @@ enum psci_refusal_number {
     /* encode; 1002 and 1003 come first, since such words are no call */
     PSCI_MIXED_CALL_FORMS = 14,                /* 0: a CPU on whose MPIDR and entry differ in form */
     PSCI_INVALID_STATE_ID = 15,                /* the state ID, which is above 0x0fffffff */
+    PSCI_INVALID_VENDOR_TYPE = 31,             /* the vendor's reset type, which is above 0x7fffffff */
     PSCI_UNKNOWN_TAG = 1002,                   /* the tag */
     PSCI_WRONG_PART = 1003,                    /* 0: a part that has no room in its place, or is not 0 where there is none */
 
@@ -149,7 +150,7 @@ enum psci_part {
     PSCI_RANGE_LENGTH = 2,
 
     PSCI_RESET_VENDOR = 0, /* 0 the architectural warm reset, and then the type is 0; 1 a vendor's */
-    PSCI_RESET_TYPE = 1,   /* 32 bits; decode gives at most 0x7fffffff, and encode sets bit 31 of a vendor's */
+    PSCI_RESET_TYPE = 1,   /* 0x7fffffff at most: bit 31 of the word, which marks a vendor's and which encode sets, is no part of it */
 
     PSCI_FEATURE_SMCCC = 0, /* 1: the SMCCC version is asked for, and then the place is 0 */
     PSCI_FEATURE_PLACE = 1  /* one of enum psci_place */
@@ -198,8 +199,9 @@ enum psci_place {
 struct psci_refusal psci_decode(const uint64_t regs[PSCI_REGISTERS], uint64_t call[PSCI_CALL_WORDS]);
 
 /* The four words of a call: its function number, its fields in their registers, all other bits zero. Accepted: all four words of out are
- * written. Refused, 1002, 1003, 14 or 15: out is left as it was. Words that psci_decode gave were never refused in any run; that they can't be is
- * not proved of the nine words. psci_recode, which hands over no words, is proved to refuse what decode refuses and nothing else. */
+ * written. Refused, 1002, 1003, 14, 15 or 31: out is left as it was. Words that psci_decode gave were never refused in any run; that they
+ * can't be is not proved of the nine words. psci_recode, which hands over no words, is proved to refuse what decode refuses and nothing
+ * else. */
 struct psci_refusal psci_encode(const uint64_t call[PSCI_CALL_WORDS], uint64_t out[PSCI_REGISTERS]);
 
 /* Decodes four registers and encodes the call: what is left are the function number and its fields. Accepted: all four words of out are

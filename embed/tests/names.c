@@ -1,5 +1,5 @@
-/* names: every name of psci.h, on values put down from document 01: each call by its tag and parts, each function by its place, each refusal.
- * Prints how many cases there were; a case that fails is named on standard error. In C11 and in C++11. */
+/* names: every name of psci.h, on values put down from document 01, for refusal 31 from document 02: each call by its tag and parts, each
+ * function by its place, each refusal. Prints how many cases there were; a case that fails is named on standard error. In C11 and in C++11. */
 #include <inttypes.h>
 #include <stdio.h>
 #include <string.h>
@@ -147,6 +147,7 @@ static const struct {
 } unwritten[] = {
     {{PSCI_TAG_CPU_ON, 0, 0, 3, 2, 1, 1, 0x80000, 9}, PSCI_MIXED_CALL_FORMS, 0},
     {{PSCI_TAG_CPU_SUSPEND, 0, 0x10000000, 0, 0, 0, 0, 0, 0}, PSCI_INVALID_STATE_ID, 0x10000000},
+    {{PSCI_TAG_SYSTEM_RESET2, 1, 0x80000000, 0, 0, 0, 0, 0, 0}, PSCI_INVALID_VENDOR_TYPE, 0x80000000},
     {{PSCI_TAG_STAT_COUNT + 1, 0, 0, 0, 0, 0, 0, 0, 0}, PSCI_UNKNOWN_TAG, 22},
     {{PSCI_TAG_MEM_PROTECT, 2, 0, 0, 0, 0, 0, 0, 0}, PSCI_WRONG_PART, 0},
     {{PSCI_TAG_CPU_OFF, 0, 0, 0, 0, 0, 0, 0, 1}, PSCI_WRONG_PART, 0},

@@ -20,13 +20,14 @@ pub struct Arguments {
     pub r3: u64,
 }
 
-// What the argument words of a call are, or the refusal of its power state.
+// What the argument words of a call are, or the refusal of its power state or its reset type.
 pub enum ArgumentsResult {
     Ok(Arguments),
     Err(Error),
 }
 
-// The fields of a call in their registers, zero elsewhere. A state ID above 0x0fffffff is refused with 15; a level is not checked.
+// The fields of a call in their registers, zero elsewhere. A state ID above 0x0fffffff is refused with 15, a vendor type above 0x7fffffff with 31;
+// a level is not checked.
 pub fn argument_words(function: Function) -> ArgumentsResult
     ensures { λ r. ⌜ argumentsAnswer r ≡ argumentsOf function ⌝ }
 {
@@ -57,8 +58,8 @@ pub fn argument_words(function: Function) -> ArgumentsResult
             0,
         ),
         Function::SystemReset => three(0, 0, 0),
-        Function::SystemReset2 { reset_type, cookie } => three(
-            reset_type.to_u32() as u64,
+        Function::SystemReset2 { reset_type, cookie } => with_first(
+            reset_type.to_u32(),
             cookie_word(cookie),
             0,
         ),

@@ -23,8 +23,8 @@ pub enum EncodeResult {
     Err(Error),
 }
 
-// Writes the four words of a call. Refused in this order, and the run left as it was: a run not four numbers long with 17, a CPU on whose
-// MPIDR and entry differ in form with 14, a state ID above 0x0fffffff with 15.
+// Writes the four words of a call. Refused in this order, and the run left as it was: a run not four numbers long with 17; a CPU on whose
+// MPIDR and entry differ in form with 14, or a state ID above 0x0fffffff with 15, or a vendor type above 0x7fffffff with 31.
 pub fn encode(function: Function, out: &mut [u64]) -> EncodeResult
     ensures { λ r. ⌜ (encodeAnswer r (now (out .exit)) ≡ encodeOf function (now (out .entry))) × (now (out .exit) ≡ left (encodeOf function (now (out .entry))) (now (out .entry))) ⌝ }
 {

@@ -16,7 +16,8 @@ use Rattle.words.specs.Flags.{flagWord}
 use Rattle.function.specs.declared.Function.{Function}
 use Rattle.function.specs.declared.Function.the-variants.{Version, CpuSuspend, CpuOff, CpuOn, AffinityInfo, Migrate, MigrateInfoType, MigrateInfoUpCpu, SystemOff, SystemOff2, SystemReset, SystemReset2, MemProtect, MemProtectCheckRange, Features, CpuFreeze, CpuDefaultSuspend, NodeHwState, SystemSuspend, SetSuspendMode, StatResidency, StatCount}
 
--- the fields of a call, from register 1 on. A level is written unchecked; a state ID above 0x0fffffff is refusal 15, of its writer
+-- the fields of a call, from register 1 on. A level is written unchecked; a state ID above 0x0fffffff is refusal 15, of its writer, and a vendor
+-- type above 0x7fffffff refusal 31, of its writer, in the place of 15 (document 02, Change 5)
 abbrev pub fieldsOf : Function → Answer (List ℕ)
 fieldsOf Version = accepted []
 fieldsOf (CpuSuspend state entry) = through (λ w. w ∷ entryAddress entry ∷ entryContext entry ∷ []) (writePowerState state)
@@ -29,7 +30,7 @@ fieldsOf (MigrateInfoUpCpu is32bit) = accepted []
 fieldsOf SystemOff = accepted []
 fieldsOf (SystemOff2 offType cookie) = accepted (systemOff2Number offType ∷ cookieWord cookie ∷ [])
 fieldsOf SystemReset = accepted []
-fieldsOf (SystemReset2 resetType cookie) = accepted (writeResetType resetType ∷ cookieWord cookie ∷ [])
+fieldsOf (SystemReset2 resetType cookie) = through (λ w. w ∷ cookieWord cookie ∷ []) (writeResetType resetType)
 fieldsOf (MemProtect enabled) = accepted (flagWord enabled ∷ [])
 fieldsOf (MemProtectCheckRange range) = accepted (baseWord range ∷ lengthWord range ∷ [])
 fieldsOf (Features feature) = accepted (featureNumber feature ∷ [])

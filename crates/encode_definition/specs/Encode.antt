@@ -1,4 +1,4 @@
--- Document 01, "The four written words" and "What is turned back": encoding, for every typed call and every lent run.
+-- Document 01, "The four written words" and "What is turned back", and document 02, Change 5: encoding, for every typed call and every lent run.
 use mathlib.Core.Bool.{cond}
 use mathlib.Core.List.{List, _∷_}
 use Prim.Native.Nat.{ℕ}
@@ -11,7 +11,7 @@ use Rattle.function.specs.Functions.{functionIdOf}
 use Rattle.function.specs.declared.Function.{Function}
 use Rattle.encode_definition.specs.Arguments.{argumentsOf}
 
--- word 0 is the function number; refusal 14 is its, 15 that of a power state
+-- word 0 is the function number; refusal 14 is its, 15 that of a power state, 31 that of a reset type
 unfoldable pub wordsOf : Function → Answer (List ℕ)
 wordsOf f = andThen (functionIdOf f) (λ id. through (λ arguments. functionNumber id ∷ arguments) (argumentsOf f))
 

@@ -99,7 +99,7 @@ pub(crate) fn architectural(w: [u64; 16]) -> [u64; 16] {
 
 pub(crate) fn reset_type(w: [u64; 16]) -> [u64; 16] {
     let value = reset_type_in(w[2], w[3]);
-    word_given(w, reset_type_words(value), wide32(value.to_u32()))
+    word_answer(w, reset_type_words(value), value.to_u32())
 }
 
 pub(crate) fn feature(w: [u64; 16]) -> [u64; 16] {

@@ -8,6 +8,7 @@ use lib.Dec.{leb}
 use lib.IntN.{pos}
 use Rattle.refusals.specs.Answers.{Answer, accepted, refused, through}
 use Rattle.refusals.specs.Inverses.{WritesBack, always, Word32}
+use Rattle.refusals.proofs.Answering.{same-accepted}
 use Rattle.function_ids.specs.FunctionIds.{Form, narrow, wide, functionNumber}
 use Rattle.function_ids.specs.declared.FunctionId.{FunctionId}
 use Rattle.function_ids.specs.declared.FunctionId.the-variants as id
@@ -49,17 +50,19 @@ module _ {A : Type 0} (call : A → Function) (words : List ℕ) where
   answered (accepted a) f = f a refl
   answered (refused number carried) f = tt
 
+  -- a word whose writer may refuse
+  word-row : (read : ℕ → Answer A) (write : A → Answer ℕ) → WritesBack Word32 read write → (a : ℕ) → a < 2 ^ 32 →
+      ((x : A) → write x ≡ accepted a → wordsOf (call x) ≡ accepted words) → WritesBackAs (through call (read a)) words
+  word-row read write back a h f = answered (read a) (λ x e. f x (back a x h e))
+
   -- a word whose writer never refuses
   number-row : (read : ℕ → Answer A) (number : A → ℕ) → WritesBack Word32 read (always number) → (a : ℕ) → a < 2 ^ 32 →
       ((x : A) → number x ≡ a → wordsOf (call x) ≡ accepted words) → WritesBackAs (through call (read a)) words
-  number-row read number back a h f = answered (read a) (λ x e. f x (same (back a x h e)))
-    where
-      same : {m n : ℕ} → _≡_ {A = Answer ℕ} (accepted m) (accepted n) → m ≡ n
-      same e = cc
+  number-row read number back a h f = word-row read (always number) back a h (λ x e. f x (same-accepted e))
 
 state-row : (call : PowerState → Function) (words : List ℕ) (a : ℕ) → a < 2 ^ 32 →
     ((s : PowerState) → writePowerState s ≡ accepted a → wordsOf (call s) ≡ accepted words) → WritesBackAs (through call (readPowerState a)) words
-state-row call words a h f = answered call words (readPowerState a) (λ s e. f s (power-state-laws .power-state-writes-back a s h e))
+state-row call words a h f = word-row call words readPowerState writePowerState (power-state-laws .power-state-writes-back) a h f
 
 -- a core address in either form
 abbrev mpidrAt : Form → ℕ → Answer Mpidr
@@ -141,8 +144,8 @@ row-law id.PsciStatResidency32 a b c p q s = core-state-row narrow _ _ a b q (λ
 row-law id.PsciStatResidency64 a b c p q s = core-state-row wide _ _ a b q (λ m x k e u. simp (k, e, u, s))
 row-law id.PsciStatCount32 a b c p q s = core-state-row narrow _ _ a b q (λ m x k e u. simp (k, e, u, s))
 row-law id.PsciStatCount64 a b c p q s = core-state-row wide _ _ a b q (λ m x k e u. simp (k, e, u, s))
-row-law id.SystemReset232 a b c p q s = number-row _ _ _ _ (reset-type-laws .reset-type-writes-back) a p (λ x e. simp (e, s))
-row-law id.SystemReset264 a b c p q s = number-row _ _ _ _ (reset-type-laws .reset-type-writes-back) a p (λ x e. simp (e, s))
+row-law id.SystemReset232 a b c p q s = word-row _ _ _ _ (reset-type-laws .reset-type-writes-back) a p (λ x e. simp (e, s))
+row-law id.SystemReset264 a b c p q s = word-row _ _ _ _ (reset-type-laws .reset-type-writes-back) a p (λ x e. simp (e, s))
 row-law id.MemProtect a b c p q s = rw (q, s) (protect-row a p)
 row-law id.MemProtectCheckRange32 a b c p q s = simp s
 row-law id.MemProtectCheckRange64 a b c p q s = simp s

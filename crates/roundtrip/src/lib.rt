@@ -9,6 +9,7 @@ use encode::EncodeResult;
 use function::FunctionResult;
 
 // Decodes four registers and encodes the call into a lent run. A refusal leaves the run as it was; after success it decodes as the registers do.
+// Refused with decode's numbers, then with 17; 14, 15 and 31 can't come of a call that was decoded, by demand 3.
 pub fn recode(regs: [u64; 4], out: &mut [u64]) -> EncodeResult
     ensures { λ r. ⌜ (encodeAnswer r (now (out .exit)) ≡ recodeOf regs (now (out .entry))) × (now (out .exit) ≡ left (recodeOf regs (now (out .entry))) (now (out .entry))) ⌝ }
     ensures { λ r. ⌜ (r ≡ Written → decodeOf (now (out .exit)) ≡ decodeOf regs) ⌝ }

@@ -1,4 +1,4 @@
--- Reset types' readers and writers invert each other, with the exception that the paper implies: the laws of the other file in one record. Assumes nothing.
+-- Reset types' readers and writers invert each other, and no two share a word: the laws of the other file in one record. Assumes nothing.
 use Rattle.words.specs.ResetTypeLaws.{ResetTypeLaws}
 use Rattle.words.proofs.ResetTypeWords as resetTypes
 
@@ -8,5 +8,6 @@ reset-type-laws = record {
   architectural-reads-back = resetTypes.architectural-reads-back;
   reset-type-writes-back = resetTypes.reset-type-writes-back;
   reset-type-reads-back = resetTypes.reset-type-reads-back;
-  vendor-bit-31 = resetTypes.vendor-bit-31;
+  reset-types-apart = resetTypes.reset-types-apart;
+  vendor-type-above = resetTypes.vendor-type-above;
 }

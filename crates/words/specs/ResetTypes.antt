@@ -2,7 +2,7 @@
 use mathlib.Core.Bool.{cond}
 use mathlib.Core.List.{List, [], _∷_}
 use Prim.Native.Nat.{ℕ}
-use lib.Dec.{eqb}
+use lib.Dec.{leb, eqb}
 use lib.IntN.{pos}
 use Rattle.bits.specs.Bits.{Field, _for_, bits, put}
 use Rattle.refusals.specs.Answers.{Answer, accepted, refused, choose, through}
@@ -35,16 +35,19 @@ vendorField = 31 for 1
 abbrev pub vendorTypeField : Field
 vendorTypeField = 0 for 31
 
+abbrev pub resetTypeFields : List Field
+resetTypeFields = vendorTypeField ∷ vendorField ∷ []
+
 unfoldable pub readResetType : ℕ → Answer ResetType
 readResetType word =
     cond (eqb (bits vendorField word) 1)
     (accepted (VendorSpecific (bits vendorTypeField word)))
     (through Architectural (readArchitecturalResetType word))
 
--- bit 31 of a typed vendor type is lost in the bit that marks it
-unfoldable pub writeResetType : ResetType → ℕ
-writeResetType (Architectural t) = architecturalNumber t
-writeResetType (VendorSpecific t) = put (vendorTypeField ∷ vendorField ∷ []) (bits vendorTypeField t ∷ 1 ∷ [])
+-- document 02, Change 5: a vendor type above 0x7fffffff is refused, and carried
+unfoldable pub writeResetType : ResetType → Answer ℕ
+writeResetType (Architectural t) = accepted (architecturalNumber t)
+writeResetType (VendorSpecific t) = cond (leb t 0x7fffffff) (accepted (put resetTypeFields (t ∷ 1 ∷ []))) (refused 31 (pos t))
 
 abbrev pub resetTypeAnswer : ResetTypeResult → Answer ResetType
 resetTypeAnswer (Ok t) = accepted t

@@ -1,7 +1,9 @@
-// Reset types, each with its reader and its writer: document 01, "Single words".
+// Reset types, each with its reader and its writer: document 01, "Single words"; document 02, Change 5.
 ghost use mathlib.Core.Path.{_≡_};
+ghost use Rattle.refusals.specs.Errors.{wordAnswer};
 ghost use Rattle.words.specs.ResetTypes.{architecturalNumber, readArchitecturalResetType, architecturalAnswer, readResetType, writeResetType, resetTypeAnswer};
 use refusals::Error;
+use refusals::WordResult;
 
 // SYSTEM_RESET2 architectural reset type, DEN0022 5.1.12.
 pub enum ArchitecturalResetType {
@@ -63,14 +65,21 @@ impl ResetType {
         }
     }
 
-    // The type's word: bit 31 marks a vendor type. A vendor type that has bit 31 itself is written as if it had not.
-    pub fn to_u32(self) -> u32
-        ensures { λ r. ⌜ r ≡ writeResetType self ⌝ }
+    // The type's word: bit 31 marks a vendor type. A vendor type above 0x7fffffff, which has no room beside that bit, is refused with 31, and
+    // carried.
+    pub fn to_u32(self) -> WordResult
+        ensures { λ r. ⌜ wordAnswer r ≡ writeResetType self ⌝ }
     {
         match self {
-            Self::Architectural(architectural_reset_type) => architectural_reset_type.to_u32(),
+            Self::Architectural(architectural_reset_type) => {
+                WordResult::Ok(architectural_reset_type.to_u32())
+            }
             Self::VendorSpecific(vendor_specific_type) => {
-                vendor_specific_type | Self::VENDOR_SPECIFIC_BIT
+                if vendor_specific_type & Self::VENDOR_SPECIFIC_BIT != 0 {
+                    WordResult::Err(Error::InvalidVendorType(vendor_specific_type))
+                } else {
+                    WordResult::Ok(vendor_specific_type | Self::VENDOR_SPECIFIC_BIT)
+                }
             }
         }
     }

@@ -25,6 +25,8 @@ pub enum Error {
     InvalidStateId(u32),
     /// Refusal 16: a major version above 0x7fff. arm-psci panics.
     InvalidMajorVersion(u16),
+    /// Refusal 31: a vendor's reset type above 0x7fff_ffff. arm-psci writes it as the type without bit 31.
+    InvalidVendorType(u32),
     /// A refusal of the archives that this crate has no name for, with its value. None of the archives of this repository gives one.
     Unnamed {
         number: u64,
@@ -47,6 +49,7 @@ impl Error {
             8 => Self::UnrecognisedSuspendMode(low),
             14 => Self::MixedCallForms,
             15 => Self::InvalidStateId(low),
+            31 => Self::InvalidVendorType(low),
             _ => Self::Unnamed { number, value },
         }
     }
@@ -72,6 +75,7 @@ impl fmt::Display for Error {
             Self::MixedCallForms => write!(f, "mixed 32 bit and 64 bit CPU_ON arguments"),
             Self::InvalidStateId(value) => write!(f, "invalid power state ID {value}"),
             Self::InvalidMajorVersion(value) => write!(f, "invalid PSCI major version {value}"),
+            Self::InvalidVendorType(value) => write!(f, "invalid SYSTEM_RESET2 vendor type {value}"),
             Self::Unnamed { number, value } => write!(f, "refusal {number} with value {value}"),
         }
     }

@@ -16,7 +16,7 @@ fn first_field(call: Function) -> Result<u64, Error> {
     Ok(words[1])
 }
 
-/// The second of the four words of a call that is not refused: it is no CPU on and has no power state.
+/// The second of the four words of a call that is not refused: it is no CPU on and has neither a power state nor a reset type.
 fn sure_field(call: Function) -> u64 {
     first_field(call).unwrap_or(0)
 }
@@ -207,9 +207,12 @@ impl TryFrom<u32> for ResetType {
     }
 }
 
-impl From<ResetType> for u32 {
-    fn from(reset_type: ResetType) -> Self {
-        sure_field(Function::SystemReset2 { reset_type, cookie: Cookie::Cookie32(0) }) as u32
+/// Refused with [`Error::InvalidVendorType`] where arm-psci, which has `From` here, merges bit 31 of a vendor type.
+impl TryFrom<ResetType> for u32 {
+    type Error = Error;
+
+    fn try_from(reset_type: ResetType) -> Result<Self, Error> {
+        Ok(first_field(Function::SystemReset2 { reset_type, cookie: Cookie::Cookie32(0) })? as u32)
     }
 }
 

@@ -52,22 +52,25 @@ impl Function {
     /// The function ID for the call. A CPU on whose MPIDR and entry point differ in form is refused; arm-psci panics.
     pub fn function_id(&self) -> Result<FunctionId, Error> {
         let mut words = [0; 4];
-        archive::encode(&words_of(&self.with_any_state()), &mut words)?;
+        archive::encode(&words_of(&self.with_sure_fields()), &mut words)?;
         FunctionId::try_from(words[0] as u32)
     }
 
     /// Writes the call's four words: the function ID, the arguments in their registers, zero elsewhere. A CPU on whose MPIDR and entry point
-    /// differ in form, and a state ID above 0x0fff_ffff, are refused, and `a` stays as it was; arm-psci clears it and panics.
+    /// differ in form, and a state ID above 0x0fff_ffff, are refused, and `a` stays as it was; arm-psci clears it and panics. So is a vendor's reset
+    /// type above 0x7fff_ffff; arm-psci writes it as the type without bit 31.
     pub fn copy_to_array(&self, a: &mut [u64; 4]) -> Result<(), Error> {
         archive::encode(&words_of(self), a)
     }
 
-    /// The call with a power state that can be written: the function ID does not depend on it.
-    fn with_any_state(mut self) -> Self {
-        if let Self::CpuSuspend { state, .. } | Self::StatResidency { power_state: state, .. } | Self::StatCount { power_state: state, .. } =
-            &mut self
-        {
-            *state = PowerState::StandbyOrRetention(0);
+    /// The call with a power state or a reset type that can be written: the function ID does not depend on them.
+    fn with_sure_fields(mut self) -> Self {
+        match &mut self {
+            Self::CpuSuspend { state, .. } | Self::StatResidency { power_state: state, .. } | Self::StatCount { power_state: state, .. } => {
+                *state = PowerState::StandbyOrRetention(0);
+            }
+            Self::SystemReset2 { reset_type, .. } => *reset_type = ResetType::VendorSpecific(0),
+            _ => {}
         }
         self
     }

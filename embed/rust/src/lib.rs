@@ -19,8 +19,8 @@
 //! # Ok::<(), rampcomfrey::Error>(())
 //! ```
 //!
-//! Where arm-psci panics, this crate gives an [`Error`]; docs/EMBEDDING.md lists what firmware has to change for that. There is no state: all
-//! cores may call at once.
+//! Where arm-psci panics, or merges bit 31 of a vendor's reset type, this crate gives an [`Error`]; docs/EMBEDDING.md lists what firmware has to
+//! change for that. There is no state: all cores may call at once.
 #![no_std]
 #![deny(missing_docs)]
 #![deny(unsafe_op_in_unsafe_fn)]

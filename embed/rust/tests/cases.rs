@@ -72,7 +72,7 @@ fn m8_reset_type() {
     assert_eq!(ResetType::try_from(0), Ok(ResetType::Architectural(ArchitecturalResetType::SystemWarmReset)));
     assert_eq!(ResetType::try_from(1), Err(Error::UnrecognisedSystemReset2Type(1)));
     assert_eq!(ResetType::try_from(0x80000001), Ok(ResetType::VendorSpecific(1)));
-    assert_eq!(u32::from(ResetType::VendorSpecific(1)), 0x80000001);
+    assert_eq!(u32::try_from(ResetType::VendorSpecific(1)), Ok(0x80000001));
     assert_eq!(ArchitecturalResetType::try_from(0x80000001), Err(Error::UnrecognisedSystemReset2Type(0x80000001)));
 }
 
@@ -123,6 +123,22 @@ fn a_state_id_is_refused_and_the_function_id_does_not_ask_for_it() {
     let count = Function::StatCount { target_cpu: Mpidr::from_aff3210(0, 0, 0, 0), power_state: PowerState::PowerDown(u32::MAX) };
     assert_eq!(not_written(count), Error::InvalidStateId(u32::MAX));
     assert_eq!(count.function_id(), Ok(FunctionId::PsciStatCount64));
+}
+
+/// Document 02, Change 5.
+#[test]
+fn a_vendor_type_is_refused_and_the_function_id_does_not_ask_for_it() {
+    assert_eq!(u32::try_from(ResetType::VendorSpecific(0x7fffffff)), Ok(0xffffffff));
+    for (cookie, id) in [(Cookie::Cookie32(6), FunctionId::SystemReset232), (Cookie::Cookie64(6), FunctionId::SystemReset264)] {
+        let reset = |vendor| Function::SystemReset2 { reset_type: ResetType::VendorSpecific(vendor), cookie };
+        assert_eq!(written(reset(0x7fffffff)), [u32::from(id).into(), 0xffffffff, 6, 0]);
+        for vendor in [0x80000000, 0x80000001, 0xffffffff] {
+            assert_eq!(u32::try_from(ResetType::VendorSpecific(vendor)), Err(Error::InvalidVendorType(vendor)));
+            assert_eq!(not_written(reset(vendor)), Error::InvalidVendorType(vendor));
+            assert_eq!(reset(vendor).function_id(), Ok(id));
+        }
+    }
+    assert_eq!(ErrorCode::from(Error::InvalidVendorType(0x80000000)), ErrorCode::InvalidParameters);
 }
 
 #[test]

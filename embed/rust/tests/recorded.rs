@@ -43,6 +43,7 @@ fn refusal(error: Error) -> [u64; 2] {
         Error::UnrecognisedSuspendMode(value) => [8, value.into()],
         Error::MixedCallForms => [14, 0],
         Error::InvalidStateId(value) => [15, value.into()],
+        Error::InvalidVendorType(value) => [31, value.into()],
         other => panic!("{other:?} is no refusal of a call"),
     }
 }

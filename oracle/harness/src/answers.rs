@@ -8,7 +8,7 @@ use crate::{NO_OPERATION, NO_PART, NO_TAG, Record, op};
 /// A refusal's number and the value that it carries.
 pub type No = (u64, u64);
 
-/// Document 01's number of an error and the value that it carries, signed ones as 64 bits.
+/// The papers' number of an error and the value that it carries, signed ones as 64 bits.
 pub fn refusal(e: Error) -> No {
     match e {
         Error::UnrecognisedFunctionId(v) => (1, v.into()),
@@ -123,7 +123,10 @@ fn write(op: u64, p: &[u64]) -> (Flat, Result<u64, No>) {
         op::WRITE_MPIDR_64 => some(flat(0, &mpidr(to_mpidr(p))), u64::from(to_mpidr(p))),
         op::WRITE_OFF_TYPE => some(one(0), u32::from(SystemOff2Type::HibernateOff).into()),
         op::WRITE_ARCHITECTURAL => some(one(0), u32::from(ArchitecturalResetType::SystemWarmReset).into()),
-        op::WRITE_RESET_TYPE => some(flat(0, &reset(to_reset(p))), u32::from(to_reset(p)).into()),
+        op::WRITE_RESET_TYPE => {
+            let reset_type = to_reset(p);
+            (flat(0, &reset(reset_type)), departures::reset_type_word(reset_type).map(u64::from))
+        }
         op::WRITE_FEATURE => some(flat(0, &feature(to_feature(p))), u32::from(to_feature(p)).into()),
         op::WRITE_HW_STATE => some(one(at(3) as u64), u32::from(HW[at(3)]).into()),
         op::WRITE_SUSPEND_MODE => some(one(at(2) as u64), u32::from(MODES[at(2)]).into()),

@@ -7,7 +7,8 @@ pub mod answers;
 #[path = "flat.rs"]
 pub mod flat;
 
-/// What firmware has to change: four methods and conversions give an error where arm-psci panics, and `Error` has a case for each panic.
+/// What firmware has to change: four methods and conversions give an error where arm-psci panics, and two, `copy_to_array` among them, where it
+/// merges bit 31 of a vendor type; `Error` has a case for each panic, and one for that.
 pub mod departures {
     use super::answers::{self, No};
     use rampcomfrey::*;
@@ -17,7 +18,8 @@ pub mod departures {
             Error::MixedCallForms => (14, 0),
             Error::InvalidStateId(id) => (15, id.into()),
             Error::InvalidMajorVersion(major) => (16, major.into()),
-            other => unreachable!("{other:?} is not in document 01"),
+            Error::InvalidVendorType(vendor_type) => (31, vendor_type.into()),
+            other => unreachable!("{other:?} is in neither paper"),
         }
     }
 
@@ -31,6 +33,10 @@ pub mod departures {
 
     pub fn power_state_word(state: PowerState) -> Result<u32, No> {
         u32::try_from(state).map_err(answers::refusal)
+    }
+
+    pub fn reset_type_word(reset_type: ResetType) -> Result<u32, No> {
+        u32::try_from(reset_type).map_err(answers::refusal)
     }
 
     pub fn version_word(version: Version) -> Result<u32, No> {

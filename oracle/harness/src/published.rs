@@ -7,7 +7,7 @@ pub mod answers;
 pub mod flat;
 
 /// Where the Rust panics, document 01 refuses: 14 carries nothing, 15 the state ID, 16 the major. Before a panic the Rust has cleared the four
-/// words; a refusal leaves them.
+/// words; a refusal leaves them. Where the Rust merges bit 31 of a vendor type, document 02 (Change 5) refuses: 31 carries the type.
 pub mod departures {
     use super::answers::No;
     use arm_psci::*;
@@ -67,6 +67,9 @@ pub mod departures {
     }
 
     pub fn copy_to_array(call: Function, out: &mut [u64; 4]) -> Result<(), No> {
+        if let Function::SystemReset2 { reset_type, .. } = call {
+            reset_type_word(reset_type)?;
+        }
         let mut words = *out;
         *out = guarded(move || {
             call.copy_to_array(&mut words);
@@ -78,6 +81,13 @@ pub mod departures {
 
     pub fn power_state_word(state: PowerState) -> Result<u32, No> {
         guarded(move || u32::from(state)).map_err(|number| (number, state_id(state)))
+    }
+
+    pub fn reset_type_word(reset_type: ResetType) -> Result<u32, No> {
+        match reset_type {
+            ResetType::VendorSpecific(merged @ 0x8000_0000..) => Err((31, merged.into())), // and nothing else: see tests/departures.rs
+            written => Ok(u32::from(written)),
+        }
     }
 
     pub fn version_word(version: Version) -> Result<u32, No> {
