@@ -67,7 +67,7 @@ fn store(words: [u64; 9], out: &mut [u64])
     out[8] = words[8];
 }
 
-// The nine words of the call that four registers make. A refusal leaves the lent words as they were.
+// The nine words of the call that four registers make. Refused with decode's numbers, 1 to 8; the lent words are then as they were.
 #[no_mangle]
 pub extern "C" fn psci_decode(regs: &[u64; 4], out: &mut [u64; 9]) -> Refusal
     ensures { λ r. ⌜ (r ≡ refusalIn (decodeOf (now (regs .entry)))) × (now (out .exit) ≡ left (through callWords (decodeOf (now (regs .entry)))) (now (out .entry))) ⌝ }
@@ -82,7 +82,8 @@ pub extern "C" fn psci_decode(regs: &[u64; 4], out: &mut [u64; 9]) -> Refusal
     }
 }
 
-// The four words of the call that nine words stand for. A refusal leaves the lent words as they were.
+// The four words of the call that nine words stand for. Refused with 1002 or 1003 where they stand for none, then with encode's 14, 15 or 31; the
+// lent words are then as they were.
 #[no_mangle]
 pub extern "C" fn psci_encode(call: &[u64; 9], out: &mut [u64; 4]) -> Refusal
     ensures { λ r. ⌜ (r ≡ refusalIn (encodeWords (now (call .entry)) (now (out .entry)))) × (now (out .exit) ≡ left (encodeWords (now (call .entry)) (now (out .entry))) (now (out .entry))) ⌝ }
@@ -104,7 +105,7 @@ pub extern "C" fn psci_encode(call: &[u64; 9], out: &mut [u64; 4]) -> Refusal
     }
 }
 
-// Decodes four registers and encodes the call. A refusal leaves the lent words as they were.
+// Decodes four registers and encodes the call. Refused with decode's numbers, 1 to 8, and with no other; the lent words are then as they were.
 #[no_mangle]
 pub extern "C" fn psci_recode(regs: &[u64; 4], out: &mut [u64; 4]) -> Refusal
     ensures { λ r. ⌜ (r ≡ refusalIn (recodeOf (now (regs .entry)) (now (out .entry)))) × (now (out .exit) ≡ left (recodeOf (now (regs .entry)) (now (out .entry))) (now (out .entry))) ⌝ }
