@@ -1,4 +1,5 @@
 pub mod Fields
+pub mod HalfLaws
 pub mod Masks
 pub mod Picks
 pub mod TwosComplement

@@ -10,7 +10,7 @@ use lib.Dec.{T, leb, leb→le}
 use lib.Bits.{bitAnd, bitOr, or-shifted, and-block, and-high, and-zero-r, and-zero-l, and-step, and-mod, and-shr, and-mask}
 use lib.Pow.{pow-pos, pow-add, split, high-ones}
 use borrow.Author.Tests.{eq-eqb, ne-eqb}
-use Rattle.bits.specs.Bits.{Field, _for_, bits, cutTo, only}
+use Rattle.bits.specs.Bits.{Field, _for_, bits, maskOf, cutTo, only}
 
 -- a mask with a part above bit k and a part below
 and-parts : (word k high low : ℕ) → low < 2 ^ k → bitAnd word (high * 2 ^ k + low) ≡ bitAnd (word / 2 ^ k) high * 2 ^ k + bitAnd (word % 2 ^ k) low
@@ -36,11 +36,6 @@ and-add word k high low h = and-parts word k high low h ∙ sym (ap₂ _+_ (and-
 -- one field's mask
 and-field : (word lo count : ℕ) → bitAnd word ((2 ^ count - 1) * 2 ^ lo) ≡ bits (lo for count) word * 2 ^ lo
 and-field word lo count = ap (bitAnd word) (sym (high-ones count lo)) ∙ and-high word count lo
-
--- the mask of several fields
-abbrev pub maskOf : List Field → ℕ
-maskOf [] = 0
-maskOf (f ∷ fs) = (2 ^ f .count - 1) * 2 ^ f .lo + maskOf fs
 
 -- the fields stand in rising order from bit k up, and none overlap
 abbrev pub rising : ℕ → List Field → Bool
