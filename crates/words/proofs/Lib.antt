@@ -1,3 +1,4 @@
+pub mod MpidrHalves
 pub mod MpidrLaws
 pub mod MpidrWords
 pub mod NumberedWords

@@ -1,10 +1,11 @@
 -- Document 01, "Single words": what each reader of MPIDR accepts writes back, and what each writer gives reads back; the exceptions that the
--- paper implies stand at the end.
+-- paper implies stand behind that. Document 02, Change 4: the masks of a register's halves.
 use mathlib.Core.Path.{_≡_}
 use Prim.Native.Nat.{ℕ, _^_, _<_}
 use Rattle.refusals.specs.Answers.{accepted}
 use Rattle.refusals.specs.Inverses.{WritesBack, ReadsBack, always, Word32, Word64}
-use Rattle.words.specs.Mpidrs.{mpidrOf, readMpidr32, readMpidr64, writeMpidr32, writeMpidr64}
+use Rattle.bits.specs.Halves.{registerOf}
+use Rattle.words.specs.Mpidrs.{mpidrOf, readMpidr32, readMpidr64, writeMpidr32, writeMpidr64, mbzBits64, mbzHalves64}
 use Rattle.words.specs.declared.mpidrs.Aff3.the-variants.{None, Some}
 use Rattle.words.specs.declared.mpidrs.Mpidr.{Mpidr}
 
@@ -29,3 +30,5 @@ pub record MpidrLaws : Type 0 where
       writeMpidr32 (mpidrOf a0 a1 a2 (Some 0)) ≡ accepted word → readMpidr32 word ≡ accepted (mpidrOf a0 a1 a2 None)
   pub aff3-absent : (a0 a1 a2 : ℕ) → a0 < 2 ^ 8 → a1 < 2 ^ 8 → a2 < 2 ^ 8 →
       readMpidr64 (writeMpidr64 (mpidrOf a0 a1 a2 None)) ≡ accepted (mpidrOf a0 a1 a2 (Some 0))
+  -- the masks of a register's halves are the two halves of MBZ_BITS_64
+  pub mbz-halves : registerOf mbzHalves64 ≡ mbzBits64

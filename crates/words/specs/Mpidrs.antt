@@ -1,11 +1,12 @@
 -- MPIDR: affinity 0, 1, 2 are bits 0–7, 8–15, 16–23; affinity 3 is bits 32–39 and absent in the 32-bit form. Other bits must be zero.
 use mathlib.Core.Bool.{cond}
 use mathlib.Core.List.{List, [], _∷_}
-use Prim.Native.Nat.{ℕ}
+use Prim.Native.Nat.{ℕ, _-_, _^_}
 use lib.Dec.{eqb}
 use lib.IntN.{pos}
 use Rattle.refusals.specs.Answers.{Answer, accepted, refused}
-use Rattle.bits.specs.Bits.{Field, _for_, bits, put, only}
+use Rattle.bits.specs.Bits.{Field, _for_, bits, put, maskOf, only}
+use Rattle.bits.specs.declared.halves.Halves.{Halves}
 use Rattle.refusals.specs.Errors.{refusal}
 use Rattle.words.specs.declared.mpidrs.Aff3.{Aff3}
 use Rattle.words.specs.declared.mpidrs.Aff3.the-variants.{None, Some}
@@ -28,6 +29,13 @@ mpidr32 word = mpidrOf (bits (0 for 8) word) (bits (8 for 8) word) (bits (16 for
 
 abbrev pub mpidr64 : ℕ → Mpidr
 mpidr64 word = mpidrOf (bits (0 for 8) word) (bits (8 for 8) word) (bits (16 for 8) word) (Some (bits (32 for 8) word))
+
+-- MBZ_BITS_64, every bit of a word of 64 bits but those of the fields; and the masks of its upper and its lower half (document 02, Change 4)
+abbrev pub mbzBits64 : ℕ
+mbzBits64 = 2 ^ 64 - 1 - maskOf fields64
+
+abbrev pub mbzHalves64 : Halves
+mbzHalves64 = record { upper = 0xffffff00; lower = 0xff000000 }
 
 unfoldable pub readMpidr32 : ℕ → Answer Mpidr
 readMpidr32 word = cond (only fields32 word) (accepted (mpidr32 word)) (refused 3 (pos word))

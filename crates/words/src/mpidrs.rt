@@ -1,7 +1,9 @@
 // MPIDR, which names a core, with its readers and writers: document 01, "Single words".
 ghost use mathlib.Core.Path.{_≡_};
 ghost use Rattle.refusals.specs.Errors.{wordAnswer};
-ghost use Rattle.words.specs.Mpidrs.{readMpidr32, readMpidr64, mpidr64, writeMpidr32, writeMpidr64, mpidrAnswer, mpidrOf, lowWord};
+ghost use Rattle.bits.specs.Halves.{registerOf};
+ghost use Rattle.words.specs.Mpidrs.{readMpidr32, readMpidr64, mpidr64, writeMpidr32, writeMpidr64, mpidrAnswer, mpidrOf, lowWord, mbzBits64, mbzHalves64};
+use bits::halves::Halves;
 use refusals::Error;
 use refusals::WordResult;
 
@@ -31,6 +33,11 @@ impl Mpidr {
 
     const MBZ_BITS_64: u64 = 0xffff_ff00_ff00_0000;
 
+    // The same in the upper and in the lower half of a word of 64 bits.
+    const MBZ_BITS_64_UPPER: u32 = 0xffff_ff00;
+
+    const MBZ_BITS_64_LOWER: u32 = 0xff00_0000;
+
     // An MPIDR with affinity 3.
     pub fn from_aff3210(aff3: u8, aff2: u8, aff1: u8, aff0: u8) -> Self
         ensures { λ r. ⌜ r ≡ mpidrOf aff0 aff1 aff2 (Aff3.Some aff3) ⌝ }
@@ -59,18 +66,40 @@ impl Mpidr {
     pub fn from_register_value(mpidr_el1: u64) -> Self
         ensures { λ r. ⌜ r ≡ mpidr64 «mpidr_el1» ⌝ }
     {
-        Self::fields_64(mpidr_el1 & !Self::MBZ_BITS_64)
+        let register = Halves::from_u64(mpidr_el1);
+        let mbz = Self::mbz_halves();
+        Self::fields_64(Halves {
+            upper: register.upper & !mbz.upper,
+            lower: register.lower & !mbz.lower,
+        })
     }
 
-    // The four affinity fields of a word, whatever its other bits.
-    fn fields_64(value: u64) -> Self
-        ensures { λ r. ⌜ r ≡ mpidr64 value ⌝ }
+    // MBZ_BITS_64, for a reader that goes by the whole register: crate mpidr_bench.
+    pub fn mbz_bits_64() -> u64
+        ensures { λ r. ⌜ r ≡ mbzBits64 ⌝ }
+    {
+        Self::MBZ_BITS_64
+    }
+
+    // The masks of a register's halves, for the readers here. They are the two halves of MBZ_BITS_64: `mbz-halves` in specs/MpidrLaws.antt.
+    fn mbz_halves() -> Halves
+        ensures { λ r. ⌜ r ≡ mbzHalves64 ⌝ }
+    {
+        Halves {
+            upper: Self::MBZ_BITS_64_UPPER,
+            lower: Self::MBZ_BITS_64_LOWER,
+        }
+    }
+
+    // The four affinity fields of a register by its halves, whatever its other bits.
+    fn fields_64(register: Halves) -> Self
+        ensures { λ r. ⌜ r ≡ mpidr64 (registerOf register) ⌝ }
     {
         Self::from_aff3210(
-            ((value >> 32) % 0x100) as u8,
-            ((value >> 16) % 0x100) as u8,
-            ((value >> 8) % 0x100) as u8,
-            (value % 0x100) as u8,
+            (register.upper % 0x100) as u8,
+            ((register.lower >> 16) % 0x100) as u8,
+            ((register.lower >> 8) % 0x100) as u8,
+            (register.lower % 0x100) as u8,
         )
     }
 
@@ -93,10 +122,13 @@ impl Mpidr {
     pub fn try_from_u64(value: u64) -> MpidrResult
         ensures { λ r. ⌜ mpidrAnswer r ≡ readMpidr64 value ⌝ }
     {
-        if value & Self::MBZ_BITS_64 != 0 {
+        let register = Halves::from_u64(value);
+        let mbz = Self::mbz_halves();
+        // one test of both: of two with `||` between them the kit's LLVM makes one of the whole register
+        if (register.upper & mbz.upper) | (register.lower & mbz.lower) != 0 {
             MpidrResult::Err(Error::InvalidMpidr64(value))
         } else {
-            MpidrResult::Ok(Self::fields_64(value))
+            MpidrResult::Ok(Self::fields_64(register))
         }
     }
 
