@@ -1,0 +1,21 @@
+-- `told` meets its contract. Assumes nothing.
+use mathlib.Core.Path.{ap, _∙_}
+use borrow.Author.Needs.{needs}
+use Rattle.words.specs.Mpidrs.{mpidrAnswer}
+use Rattle.mpidr_bench.proofs.Laws.{told-core, told-refusal}
+use Rattle.mpidr_bench.proofs.told.Statement.{statement}
+use Rattle.mpidr_bench.proofs.told.Tie as tie
+
+returns : tie.Need-returns
+returns c =
+    told-core (c .before .before .before .before .before .before .args .out .now) (search needs)
+    (ap mpidrAnswer (c .before .before .before .before .answer .given .1)) (c .store .ensures ∙ c .before .before .affinity-words .ensures)
+
+returns-2 : tie.Need-returns-2
+returns-2 c =
+    told-refusal (c .before .before .before .before .args .out .now) (ap mpidrAnswer (c .before .before .answer2 .given .1)) (c .refusal-of .ensures)
+
+pub told-spec : {M : Type 1} → statement M
+told-spec =
+    tie.close
+    (tie.spec (λ c. search needs) (λ c κs. search needs) (λ c κs. search needs) (λ c. search needs) (λ c κs. search needs) returns returns-2)
