@@ -7,10 +7,14 @@ fn main() {
     }
     let here = std::env::var("CARGO_MANIFEST_DIR").unwrap();
     let dir = std::env::var("PSCI_LIB_DIR").unwrap_or(format!("{here}/../../target/staticlib"));
-    for archive in ["call_exports", "line_exports"] {
+    for (bin, archive) in [
+        ("direct", "call_exports"),
+        ("direct", "line_exports"),
+        ("bench", "call_exports"),
+        ("bench", "line_exports"),
+        ("bench", "mpidr_bench"),
+    ] {
         println!("cargo:rerun-if-changed={dir}/lib{archive}.a");
-        for bin in ["direct", "bench"] {
-            println!("cargo:rustc-link-arg-bin={bin}={dir}/lib{archive}.a");
-        }
+        println!("cargo:rustc-link-arg-bin={bin}={dir}/lib{archive}.a");
     }
 }

@@ -29,6 +29,9 @@ pub const SET: &[u64] = &[
     0xffff_ffff_8000_0000, 0xffff_ffff_ffff_fff6, 0xffff_ffff_ffff_fff7, 0xffff_ffff_ffff_ffff,
 ];
 
+/// The bits of a 64-bit MPIDR that hold an affinity: document 01, "The typed call".
+pub const AFFINITIES: u64 = 0xff_00ff_ffff;
+
 pub fn numbers() -> Vec<u64> {
     IDS.iter().map(|id| u32::from(*id) as u64).collect()
 }
@@ -101,12 +104,12 @@ fn some_register(rng: &mut Rng, bounds: &[u64], numbers: &[u64]) -> u64 {
     let word = rng.word();
     let plain = match rng.below(10) {
         0 => word,
-        1 => word & 0xff_00ff_ffff,
+        1 => word & AFFINITIES,
         2 => word & 0x00ff_ffff,
         3 => word & 0x4fff_ffff,
         4 => word & 0x0fff_ffff,
         5 => word & 7,
-        6 => word & 0xff_00ff_ffff | 1 << rng.below(64),
+        6 => word & AFFINITIES | 1 << rng.below(64),
         7 => word & 0x4fff_ffff | 1 << rng.below(64),
         8 => rng.of(numbers),
         _ => rng.of(bounds),

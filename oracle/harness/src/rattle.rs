@@ -1,5 +1,5 @@
-//! The exported functions of the crates `call_exports` and `line_exports`. Nothing checks these declarations against the Rattle source but
-//! the comparison itself.
+//! The exported functions of the crates `call_exports` and `line_exports`, and of `mpidr_bench`, which the program `bench` alone links.
+//! Nothing checks these declarations against the Rattle source but the comparison itself.
 use crate::line::Written;
 
 /// A refusal's number and what it carries, or twice 0.
@@ -16,4 +16,6 @@ unsafe extern "C" {
     pub safe fn psci_encode(call: &[u64; 9], out: &mut [u64; 4]) -> Refusal;
     pub safe fn psci_recode(regs: &[u64; 4], out: &mut [u64; 4]) -> Refusal;
     pub safe fn psci_line(number: usize, regs: &[u64; 4], out: &mut [u8; 80]) -> Written;
+    pub safe fn bench_mpidr_halves(register: &[u64; 1], out: &mut [u64; 4]) -> Refusal;
+    pub safe fn bench_mpidr_whole(register: &[u64; 1], out: &mut [u64; 4]) -> Refusal;
 }

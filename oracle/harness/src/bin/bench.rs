@@ -1,7 +1,10 @@
-//! `bench [ROUNDS]`: times both sides on the same lists in one run, in turn, and keeps the least time of each. Both are called through a
-//! C pointer that the compiler can't see through; nothing is cleared on either side. `bench count LIST SIDE` makes the calls of one list
-//! once, for callgrind: SIDE is rust, rattle or none, which makes no call. `bench lists` names the lists, `bench calls LIST` counts one.
-use arm_psci::Function;
+//! `bench [ROUNDS]`: times two sides on the same lists in one run, in turn, and keeps the least time of each. Both are called through a
+//! C pointer that the compiler can't see through; nothing is cleared on either side. The two are the Rust and the Rattle; and, of the
+//! readers of a 64-bit MPIDR, that of the whole register and that of its halves. `bench count LIST SIDE` makes the calls of one list once,
+//! for callgrind: SIDE is first, second or none, a call that does nothing. `bench lists` has a line for each list: its two sides and its
+//! name; `bench calls LIST` counts one. `bench judge` times nothing: it holds lines and readers to the Rust.
+use arm_psci::{Function, Mpidr};
+use harness::inputs::{AFFINITIES, Rng};
 use harness::line::{self, Written};
 use harness::rattle::{self, Refusal};
 use harness::{flat, inputs, refusal};
@@ -114,8 +117,8 @@ fn time<C: Call>(list: &[C::Asked], f: C) -> (f64, u64) {
 struct Pair<C: Call> {
     name: &'static str,
     list: Vec<C::Asked>,
-    rust: C,
-    rattle: C,
+    first: C,
+    second: C,
     none: C,
 }
 
@@ -139,26 +142,49 @@ impl<C: Call> Timed for Pair<C> {
     fn run(&self, rounds: usize) {
         let (mut a, mut b) = (f64::MAX, f64::MAX);
         for _ in 0..rounds {
-            let (x, s) = time(&self.list, self.rust);
-            let (y, t) = time(&self.list, self.rattle);
+            let (x, s) = time(&self.list, self.first);
+            let (y, t) = time(&self.list, self.second);
             assert_eq!(s, t, "{}: different answers", self.name);
             (a, b) = (a.min(x), b.min(y));
         }
-        println!("| {} | {a:.2} | {b:.2} | {:.2} |", self.name.replace('_', " ").replace(':', ","), b / a);
+        println!("| {} | {a:.2} | {b:.2} | {:.2} |", plain(self.name), b / a);
     }
 
     fn count(&self, side: &str) {
         let f = match side {
-            "rust" => self.rust,
-            "rattle" => self.rattle,
+            "first" => self.first,
+            "second" => self.second,
             _ => self.none,
         };
         black_box(time(&self.list, f));
     }
 }
 
-fn words<const I: usize, const O: usize>(name: &'static str, list: &[[u64; I]], rust: Words<I, O>, rattle: Words<I, O>) -> Box<dyn Timed> {
-    Box::new(Pair { name, list: list.to_vec(), rust, rattle, none: nothing as Words<I, O> })
+/// A name as it is printed.
+fn plain(name: &str) -> String {
+    name.replace('_', " ").replace(':', ",")
+}
+
+/// Pairs of the same two sides.
+struct Table {
+    first: &'static str,
+    second: &'static str,
+    pairs: Vec<Box<dyn Timed>>,
+}
+
+impl Table {
+    fn name_lists(&self) {
+        self.pairs.iter().for_each(|p| println!("{} {} {}", self.first, self.second, p.name()));
+    }
+
+    fn run(&self, rounds: usize) {
+        println!("\n| operation and list | {}, ns | {}, ns | ratio |\n|---|---:|---:|---:|", plain(self.first), plain(self.second));
+        self.pairs.iter().for_each(|p| p.run(rounds));
+    }
+}
+
+fn words<const I: usize, const O: usize>(name: &'static str, list: &[[u64; I]], first: Words<I, O>, second: Words<I, O>) -> Box<dyn Timed> {
+    Box::new(Pair { name, list: list.to_vec(), first, second, none: nothing as Words<I, O> })
 }
 
 /// Each set with the number of a record.
@@ -167,7 +193,7 @@ fn numbered(sets: &[[u64; 4]]) -> Vec<(usize, [u64; 4])> {
 }
 
 fn lines(name: &'static str, sets: &[[u64; 4]]) -> Box<dyn Timed> {
-    Box::new(Pair { name, list: numbered(sets), rust: rust_line as Line, rattle: rattle::psci_line, none: no_line })
+    Box::new(Pair { name, list: numbered(sets), first: rust_line as Line, second: rattle::psci_line, none: no_line })
 }
 
 /// Both sides must write what the judge writes: the sum of a timed list sees only a part of each line.
@@ -180,6 +206,41 @@ fn judge_lines(sets: &[[u64; 4]]) {
     }
 }
 
+type Reader = Words<1, 4>;
+
+fn readers(name: &'static str, registers: &[[u64; 1]]) -> Box<dyn Timed> {
+    words(name, registers, rattle::bench_mpidr_whole as Reader, rattle::bench_mpidr_halves)
+}
+
+/// Legal words of a 64-bit MPIDR, the same with one of the other bits set, and random words, as many of each; and a list for each place of
+/// which one of the three was drawn.
+fn registers(seed: u64, count: usize) -> [Vec<[u64; 1]>; 4] {
+    let reserved: Vec<u64> = (0..64).map(|bit| 1 << bit).filter(|bit| bit & AFFINITIES == 0).collect();
+    let mut rng = Rng(seed);
+    let legal: Vec<[u64; 1]> = (0..count).map(|_| [rng.word() & AFFINITIES]).collect();
+    let one_bit: Vec<[u64; 1]> = legal.iter().map(|[word]| [word | reserved[rng.below(reserved.len() as u64) as usize]]).collect();
+    let random: Vec<[u64; 1]> = (0..count).map(|_| [rng.word()]).collect();
+    let drawn = (0..count).map(|i| [&legal, &one_bit, &random][rng.below(3) as usize][i]).collect();
+    [legal, one_bit, random, drawn]
+}
+
+/// Both readers must give what the Rust gives, and leave the lent words as they were where it refuses.
+fn judge_readers(registers: impl Iterator<Item = u64>) -> usize {
+    const LENT: [u64; 4] = [!0; 4];
+    registers
+        .map(|register| {
+            let judged = match Mpidr::try_from(register) {
+                Ok(m) => (ACCEPTED, [m.aff0, m.aff1, m.aff2, m.aff3.unwrap()].map(u64::from)),
+                Err(e) => (refused(e), LENT),
+            };
+            for side in [rattle::bench_mpidr_whole as Reader, rattle::bench_mpidr_halves] {
+                let mut out = LENT;
+                assert_eq!((side(&[register], &mut out), out), judged, "register {register:#x}");
+            }
+        })
+        .count()
+}
+
 fn main() {
     let args: Vec<String> = std::env::args().skip(1).collect();
     let word = |i: usize| args.get(i).map_or("", |a| a.as_str());
@@ -190,7 +251,7 @@ fn main() {
     let recode = |name, list: &[[u64; 4]]| words(name, list, rust_recode, rattle::psci_recode);
     let decode = |name, list: &[[u64; 4]]| words(name, list, rust_decode, rattle::psci_decode);
     let only = |regs: [u64; 4]| vec![regs; 1 << 14];
-    let pairs = [
+    let codec = vec![
         recode("decode_then_encode:_mixed", &mixed),
         recode("decode_then_encode:_legal", &legal),
         recode("decode_then_encode:_64-bit_CPU_on", &only([0xc400_0003, 0x1_0002_0304, 0x8_0000, 9])),
@@ -202,18 +263,32 @@ fn main() {
         lines("line:_mixed", &mixed),
         lines("line:_legal", &legal),
     ];
-    let named = |name: &str| pairs.iter().find(|p| p.name() == name).expect("the name of a list");
+    let [legal_words, one_bit, random, drawn] = registers(1, 1 << 14);
+    let mpidr = vec![
+        readers("64-bit_MPIDR:_legal_words", &legal_words),
+        readers("64-bit_MPIDR:_one_reserved_bit_set", &one_bit),
+        readers("64-bit_MPIDR:_random_words", &random),
+        readers("64-bit_MPIDR:_one_of_the_three_drawn", &drawn),
+    ];
+    let tables = [Table { first: "Rust", second: "Rattle", pairs: codec }, Table { first: "whole_register", second: "halves", pairs: mpidr }];
+    let named = |name: &str| tables.iter().flat_map(|t| &t.pairs).find(|p| p.name() == name).expect("the name of a list");
     match word(0) {
-        "lists" => pairs.iter().for_each(|p| println!("{}", p.name())),
+        "lists" => tables.iter().for_each(Table::name_lists),
         "calls" => println!("{}", named(word(1)).calls()),
         "count" => named(word(1)).count(word(2)),
+        "judge" => {
+            judge_lines(&mixed);
+            let timed = [legal_words, one_bit, random].concat();
+            let count = judge_readers(inputs::bounds().into_iter().chain(inputs::sparse()).chain(timed.into_iter().map(|[word]| word)));
+            println!("{} lines and {count} registers, no difference", mixed.len());
+        }
         rounds => {
             judge_lines(&mixed);
+            judge_readers([&legal_words, &one_bit, &random].into_iter().flatten().map(|[word]| *word));
             let rounds = rounds.parse().unwrap_or(300);
             let empty = (0..rounds).map(|_| time(&mixed, nothing as Words<4, 4>).0).fold(f64::MAX, f64::min);
-            println!("{} mixed sets, {} of them legal; an empty call takes {empty:.2} ns\n", mixed.len(), legal.len());
-            println!("| operation and list | Rust, ns | Rattle, ns | ratio |\n|---|---:|---:|---:|");
-            pairs.iter().for_each(|p| p.run(rounds));
+            println!("{} mixed sets, {} of them legal; an empty call takes {empty:.2} ns", mixed.len(), legal.len());
+            tables.iter().for_each(|t| t.run(rounds));
         }
     }
 }
