@@ -19,7 +19,8 @@ pub struct Refusal {
     pub carried: u64,
 }
 
-// The MPIDR of a 64-bit word, as `Mpidr::try_from_u64` gives it, from the whole register.
+// The MPIDR of a 64-bit word, with affinity 3, from the whole register: the answers of `Mpidr::try_from_u64`. A word with a bit of 24–31 or
+// 40–63 is refused with 4, and carried.
 pub fn try_from_whole(value: u64) -> MpidrResult
     ensures { λ r. ⌜ mpidrAnswer r ≡ readMpidr64 value ⌝ }
 {
@@ -96,7 +97,7 @@ fn told(answer: MpidrResult, out: &mut [u64; 4]) -> Refusal
     }
 }
 
-// The codec's reader, by the halves of the register.
+// The codec's reader, by the halves of the register: affinities 0 to 3. Refused with 4; the lent words are then as they were.
 #[no_mangle]
 pub extern "C" fn bench_mpidr_halves(register: &[u64; 1], out: &mut [u64; 4]) -> Refusal
     ensures { λ r. ⌜ (r ≡ refusalIn (readMpidr64 (getD (now (register .entry)) 0 0))) × (now (out .exit) ≡ left (through affinityWords (readMpidr64 (getD (now (register .entry)) 0 0))) (now (out .entry))) ⌝ }
@@ -105,7 +106,7 @@ pub extern "C" fn bench_mpidr_halves(register: &[u64; 1], out: &mut [u64; 4]) ->
     told(Mpidr::try_from_u64(r[0]), out)
 }
 
-// The reader of the whole register.
+// The reader of the whole register, with the same answers.
 #[no_mangle]
 pub extern "C" fn bench_mpidr_whole(register: &[u64; 1], out: &mut [u64; 4]) -> Refusal
     ensures { λ r. ⌜ (r ≡ refusalIn (readMpidr64 (getD (now (register .entry)) 0 0))) × (now (out .exit) ≡ left (through affinityWords (readMpidr64 (getD (now (register .entry)) 0 0))) (now (out .entry))) ⌝ }
