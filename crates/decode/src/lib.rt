@@ -1,7 +1,7 @@
-// Decoding: four registers to a typed call.
+// Decoding: four registers to a typed call, as document 01 reads them and as DEN0028 does.
 ghost use mathlib.Core.Path.{_≡_};
 ghost use Rattle.function.specs.Functions.{functionAnswer};
-ghost use Rattle.decode_definition.specs.Decode.{decodeOf};
+ghost use Rattle.decode_definition.specs.Decode.{decodeOf, decodeSmccc};
 
 pub mod affinity_calls;
 pub mod calls;
@@ -9,6 +9,7 @@ pub mod core_calls;
 pub mod registers;
 pub mod stat_calls;
 
+use crate::registers::low_half_for_protect;
 use crate::registers::number_in;
 use function::Function;
 use function::FunctionResult;
@@ -150,4 +151,12 @@ pub fn decode(regs: [u64; 4]) -> FunctionResult
         ),
         _ => return FunctionResult::Err(Error::UnrecognisedFunctionId(number)),
     }
+}
+
+// The call that four registers make, by the SMC Calling Convention (DEN0028): memory protect looks at the low 32 bits of r1. Every other number
+// has `decode`'s answer, refusals among them.
+pub fn decode_smccc(regs: [u64; 4]) -> FunctionResult
+    ensures { λ r. ⌜ functionAnswer r ≡ decodeSmccc regs ⌝ }
+{
+    decode(low_half_for_protect(regs))
 }

@@ -14,7 +14,7 @@ use Rattle.function_ids.proofs.FunctionIdLaws.{function-back}
 use Rattle.function_ids.specs.declared.FunctionId.{FunctionId}
 use Rattle.function_ids.specs.CallTable.{ruleOf, kept, valueIn, numberIn}
 use Rattle.function.specs.declared.Function.{Function}
-use Rattle.decode_definition.specs.Decode.{callOf, callIn, decodeOf}
+use Rattle.decode_definition.specs.Decode.{callOf, callIn, decodeBy, decodeOf}
 
 -- a test for zero that is kept as 0 or 1 is still that test
 pub zero-kept : (t : Bool) → eqb (cond t 0 1) 0 ≡ t
@@ -28,7 +28,7 @@ knownOf id r1 r2 r3 = callOf id (valueIn (ruleOf (functionNumber id) .fields) (k
 -- a set that has a function's number is decoded as that function's registers
 pub known-is : (id : FunctionId) (regs : List ℕ) → numberIn regs ≡ functionNumber id →
     knownOf id (getD regs 1 0) (getD regs 2 0) (getD regs 3 0) ≡ decodeOf regs
-unfolding knownOf decodeOf callIn
+unfolding knownOf decodeOf decodeBy callIn
 known-is id regs p =
     let q : readFunctionId (numberIn regs) ≡ accepted id = ap readFunctionId p ∙ function-back id in
     simp (q, sym p, mod-mod)
@@ -36,5 +36,5 @@ known-is id regs p =
 -- a set that has no function's number is refused with its number
 pub unknown-is : (regs : List ℕ) (number : ℕ) → number ≡ numberIn regs → NoneOf functionNumber (refused 1 (pos number)) (λ x. x) number Unit functions →
     refused 1 (pos number) ≡ decodeOf regs
-unfolding decodeOf callIn readFunctionId
+unfolding decodeOf decodeBy callIn readFunctionId
 unknown-is regs number e none = simp (sym e, sym (none-chosen functionNumber (refused 1 (pos number)) (λ x. x) number functions none))

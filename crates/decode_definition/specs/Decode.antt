@@ -1,5 +1,6 @@
--- Document 01, "The typed call" and "What is turned back": decoding, for every four registers. Where each field stands and which bits it
--- takes is said by the table of calls alone; here it is asked for by its kind.
+-- Document 01, "The typed call" and "What is turned back": decoding, for every four registers; and document 02's Change 2, decoding in which
+-- memory protect looks at the low half of r1. Where each field stands and which bits it takes is said by the table of calls alone; here it is
+-- asked for by its kind.
 use mathlib.Core.Bool.{true, false, not}
 use mathlib.Core.List.{List}
 use Prim.Native.Nat.{ℕ}
@@ -9,7 +10,7 @@ use Rattle.refusals.specs.Answers.{Answer, accepted, through, andThen}
 use Rattle.function_ids.specs.FunctionIds.{readFunctionId}
 use Rattle.function_ids.specs.declared.FunctionId.{FunctionId}
 use Rattle.function_ids.specs.declared.FunctionId.the-variants as id
-use Rattle.function_ids.specs.CallTable.{Kind, powerState, entry, context, mpidr, level, feature, mode, resetType, offType, cookie, rangeBase, rangeLength, memoryProtect, ruleOf, kept, valueIn}
+use Rattle.function_ids.specs.CallTable.{Kind, powerState, entry, context, mpidr, level, feature, mode, resetType, offType, cookie, rangeBase, rangeLength, memoryProtect, Part, lowHalf, whole, ruleOf, lookBy, keptBy, valueIn}
 use Rattle.words.specs.Mpidrs.{readMpidr32, readMpidr64}
 use Rattle.words.specs.PowerStates.{readPowerState}
 use Rattle.words.specs.ResetTypes.{readResetType}
@@ -66,5 +67,15 @@ callOf id.SystemOff264 the = through (λ t. SystemOff2 t (Cookie64 (the cookie))
 unfoldable pub callIn : List ℕ → Answer Function
 callIn words = andThen (readFunctionId (getD words 0 0)) (λ id. callOf id (valueIn (ruleOf (getD words 0 0) .fields) words))
 
+-- decoding, by the part of r1 that memory protect looks at
+unfoldable pub decodeBy : Part → List ℕ → Answer Function
+decodeBy protect regs = callIn (keptBy (lookBy protect) regs)
+
+-- document 01's
 unfoldable pub decodeOf : List ℕ → Answer Function
-decodeOf regs = callIn (kept regs)
+decodeOf regs = decodeBy whole regs
+
+-- Change 2's, by the SMC Calling Convention (DEN0028), which gives a 32-bit call only low halves: memory protect's was the one high half that
+-- counted (`low-halves` in TwoDecodings.antt)
+unfoldable pub decodeSmccc : List ℕ → Answer Function
+decodeSmccc regs = decodeBy lowHalf regs

@@ -1,5 +1,5 @@
--- Document 01, "The typed call": the table of calls, and which bits of a register each kind of field takes.
--- Decoding, demand 3 and whatever reads fields later read these definitions.
+-- Document 01, "The typed call": the table of calls, and which bits of a register each kind of field takes; with document 02's Change 2, by
+-- which the part of r1 that memory protect looks at is a parameter. Decoding, demand 3 and whatever reads fields later read these definitions.
 use mathlib.Core.Bool.{Bool, cond}
 use mathlib.Core.List.{List, [], _∷_}
 use Prim.Native.Nat.{ℕ, _%_, _^_}
@@ -138,21 +138,22 @@ abbrev pub byForm : Form → Look
 byForm narrow = value lowHalf
 byForm wide = value whole
 
--- what a kind takes of its register in each form
-abbrev pub bitsOf : Form → Kind → Look
-bitsOf form mpidr = byForm form
-bitsOf form entry = byForm form
-bitsOf form context = byForm form
-bitsOf form cookie = byForm form
-bitsOf form rangeBase = byForm form
-bitsOf form rangeLength = byForm form
-bitsOf form powerState = value lowHalf
-bitsOf form level = value lowHalf
-bitsOf form feature = value lowHalf
-bitsOf form mode = value lowHalf
-bitsOf form resetType = value lowHalf
-bitsOf form offType = value lowHalf
-bitsOf form memoryProtect = zeroOrNot whole
+-- what a kind takes of its register in each form. `protect` is the part of r1 that memory protect looks at: the whole register in document 01,
+-- the low half in Change 2
+abbrev pub bitsOf : Part → Form → Kind → Look
+bitsOf protect form mpidr = byForm form
+bitsOf protect form entry = byForm form
+bitsOf protect form context = byForm form
+bitsOf protect form cookie = byForm form
+bitsOf protect form rangeBase = byForm form
+bitsOf protect form rangeLength = byForm form
+bitsOf protect form powerState = value lowHalf
+bitsOf protect form level = value lowHalf
+bitsOf protect form feature = value lowHalf
+bitsOf protect form mode = value lowHalf
+bitsOf protect form resetType = value lowHalf
+bitsOf protect form offType = value lowHalf
+bitsOf protect form memoryProtect = zeroOrNot protect
 
 -- ---- what the table says of a function number
 
@@ -174,13 +175,20 @@ unfoldable pub ruleOf : ℕ → Rule
 ruleOf number = ruleIn callTable number
 
 -- what is looked at in a register under some fields
-abbrev pub lookIn : Form → List Listed → ℕ → Look
-lookIn form [] register = nothing
-lookIn form (f ∷ fs) register = cond (eqb (f .register) register) (bitsOf form (f .kind)) (lookIn form fs register)
+abbrev pub lookIn : Part → Form → List Listed → ℕ → Look
+lookIn protect form [] register = nothing
+lookIn protect form (f ∷ fs) register = cond (eqb (f .register) register) (bitsOf protect form (f .kind)) (lookIn protect form fs register)
 
 -- what a function number looks at in a register
+abbrev pub lookBy : Part → ℕ → ℕ → Look
+lookBy protect number register = lookIn protect (ruleOf number .form) (ruleOf number .fields) register
+
+-- the same in document 01, and in Change 2
 abbrev pub lookAt : ℕ → ℕ → Look
-lookAt number register = lookIn (ruleOf number .form) (ruleOf number .fields) register
+lookAt number register = lookBy whole number register
+
+abbrev pub lookSmccc : ℕ → ℕ → Look
+lookSmccc number register = lookBy lowHalf number register
 
 -- what is kept of a register: the bits looked at, with 0 elsewhere, and 1 for a part that is not zero where only that counts
 abbrev pub keep : Look → ℕ → ℕ
@@ -198,9 +206,12 @@ keptBy look regs =
     numberIn regs ∷ keep (look (numberIn regs) 1) (getD regs 1 0) ∷ keep (look (numberIn regs) 2) (getD regs 2 0) ∷
     keep (look (numberIn regs) 3) (getD regs 3 0) ∷ []
 
--- the same by the table of calls
+-- the same in document 01, and in Change 2
 abbrev pub kept : List ℕ → List ℕ
 kept regs = keptBy lookAt regs
+
+abbrev pub keptSmccc : List ℕ → List ℕ
+keptSmccc regs = keptBy lookSmccc regs
 
 -- the value of the field of a kind: the word in its register; 0 if there is no such field
 abbrev pub valueIn : List Listed → List ℕ → Kind → ℕ

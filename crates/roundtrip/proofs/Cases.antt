@@ -8,13 +8,13 @@ use Rattle.words.specs.Versions.{readVersion}
 use Rattle.words.specs.PowerStates.{readPowerState}
 use Rattle.words.specs.ResetTypes.{readArchitecturalResetType, readResetType}
 use Rattle.function.specs.Functions.{functionIdOf}
-use Rattle.decode_definition.specs.Decode.{callIn, decodeOf}
+use Rattle.decode_definition.specs.Decode.{callIn, decodeBy, decodeOf}
 use Rattle.encode_definition.specs.Arguments.{argumentsOf}
 use Rattle.encode_definition.specs.Encode.{wordsOf}
 use Rattle.roundtrip.specs.Cases.{Cases}
 
 pub cases : Cases
-unfolding callIn decodeOf ruleOf readFunctionId readMpidr32 readMpidr64 writeMpidr64 readPowerState readArchitecturalResetType readResetType readVersion readErrorCode readErrorCode64 functionIdOf argumentsOf wordsOf
+unfolding callIn decodeBy decodeOf ruleOf readFunctionId readMpidr32 readMpidr64 writeMpidr64 readPowerState readArchitecturalResetType readResetType readVersion readErrorCode readErrorCode64 functionIdOf argumentsOf wordsOf
 cases = record {
   m1-reads = refl;
   m1-writes = refl;

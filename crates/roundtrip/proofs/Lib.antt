@@ -4,3 +4,4 @@ pub mod Demand3
 pub mod Psci
 pub mod Recoding
 pub mod Rows
+pub mod SmcccCases

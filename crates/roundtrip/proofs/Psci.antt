@@ -1,4 +1,4 @@
--- Demand 3 of document 01's codec: what it accepts is written as the kept words. Assumes nothing.
+-- Demand 3 of document 01's codec and of Change 2's: what they accept is written as the kept words. Assumes nothing.
 use mathlib.Core.Path.{_≡_, refl, subst}
 use mathlib.Core.List.{List, [], _∷_}
 use Prim.Native.Nat.{ℕ, _^_, _<_}
@@ -11,12 +11,13 @@ use Rattle.refusals.proofs.Answering.{came-then}
 use Rattle.function_ids.specs.FunctionIds.{functionNumber, readFunctionId}
 use Rattle.function_ids.specs.declared.FunctionId.{FunctionId}
 use Rattle.function_ids.proofs.FunctionIdLaws.{function-number}
-use Rattle.function_ids.specs.CallTable.{lowHalf, whole, partOf, Look, nothing, value, zeroOrNot, ruleOf, lookAt, keep, numberIn, kept, valueIn}
+use Rattle.function_ids.specs.CallTable.{Part, lowHalf, whole, partOf, Look, nothing, value, zeroOrNot, ruleOf, lookBy, keep, numberIn, keptBy, kept, keptSmccc, valueIn}
 use Rattle.function.specs.declared.Function.{Function}
-use Rattle.decode_definition.specs.Decode.{callOf, callIn, decodeOf}
+use Rattle.decode_definition.specs.Decode.{callOf, callIn, decodeBy, decodeOf, decodeSmccc}
 use Rattle.encode_definition.specs.Encode.{wordsOf, encodeOf}
 use Rattle.roundtrip.specs.Codec.{Registers}
 use Rattle.roundtrip.specs.Psci.{psci, Demand3Of01}
+use Rattle.roundtrip.specs.Smccc.{smccc, Demand3OfSmccc}
 use Rattle.roundtrip.proofs.Demand3.{small, demand3}
 use Rattle.roundtrip.proofs.Rows.{WritesBackAs, FitsLook, row-law}
 
@@ -30,28 +31,48 @@ fit (zeroOrNot part) x h = small (eqb (partOf part x) 0)
 abbrev CallAt : FunctionId → ℕ → ℕ → ℕ → ℕ → Answer Function
 CallAt f n a b c = callOf f (valueIn (ruleOf n .fields) (n ∷ a ∷ b ∷ c ∷ []))
 
-number-law : (f : FunctionId) (n a b c : ℕ) → functionNumber f ≡ n → FitsLook (lookAt n 1) a → FitsLook (lookAt n 2) b → FitsLook (lookAt n 3) c →
-    WritesBackAs (CallAt f n a b c) (n ∷ a ∷ b ∷ c ∷ [])
-number-law f n a b c e =
-    subst (λ (m : ℕ). FitsLook (lookAt m 1) a → FitsLook (lookAt m 2) b → FitsLook (lookAt m 3) c → WritesBackAs (CallAt f m a b c) (m ∷ a ∷ b ∷ c ∷ [])) e
-    (row-law f a b c)
+-- whichever part of r1 memory protect looks at
+module _ (protect : Part) where
+  number-law : (f : FunctionId) (n a b c : ℕ) → functionNumber f ≡ n →
+      FitsLook (lookBy protect n 1) a → FitsLook (lookBy protect n 2) b → FitsLook (lookBy protect n 3) c → WritesBackAs (CallAt f n a b c) (n ∷ a ∷ b ∷ c ∷ [])
+  number-law f n a b c e =
+      subst (λ (m : ℕ). FitsLook (lookBy protect m 1) a → FitsLook (lookBy protect m 2) b → FitsLook (lookBy protect m 3) c → WritesBackAs (CallAt f m a b c) (m ∷ a ∷ b ∷ c ∷ [])) e
+      (row-law protect f a b c)
 
-writes : (r : List ℕ) (f : Function) → Registers r → decodeOf r ≡ accepted f → wordsOf f ≡ accepted (kept r)
-unfolding decodeOf callIn
-writes r f h d =
-    let o = came-then (readFunctionId (numberIn r)) (λ id. callOf id (valueIn (ruleOf (numberIn r) .fields) (kept r))) f d in
-    subst (λ (x : Answer Function). WritesBackAs x (kept r)) (o .1 .1)
-    (number-law (o .0) (numberIn r) _ _ _ (function-number (numberIn r) (o .0) (o .1 .0)) (fit (lookAt (numberIn r) 1) (getD r 1 0) (h .fits 1))
-    (fit (lookAt (numberIn r) 2) (getD r 2 0) (h .fits 2)) (fit (lookAt (numberIn r) 3) (getD r 3 0) (h .fits 3)))
+  writes : (r : List ℕ) (f : Function) → Registers r → decodeBy protect r ≡ accepted f → wordsOf f ≡ accepted (keptBy (lookBy protect) r)
+  unfolding decodeBy callIn
+  writes r f h d =
+      let kept = keptBy (lookBy protect) r in
+      let o = came-then (readFunctionId (numberIn r)) (λ id. callOf id (valueIn (ruleOf (numberIn r) .fields) kept)) f d in
+      subst (λ (x : Answer Function). WritesBackAs x kept) (o .1 .1)
+      (number-law (o .0) (numberIn r) _ _ _ (function-number (numberIn r) (o .0) (o .1 .0)) (fit (lookBy protect (numberIn r) 1) (getD r 1 0) (h .fits 1))
+      (fit (lookBy protect (numberIn r) 2) (getD r 2 0) (h .fits 2)) (fit (lookBy protect (numberIn r) 3) (getD r 3 0) (h .fits 3)))
+
+  written-by : (r : List ℕ) (f : Function) (run : List ℕ) → Registers r → length run ≡ 4 → decodeBy protect r ≡ accepted f →
+      encodeOf f run ≡ accepted (keptBy (lookBy protect) r)
+  unfolding encodeOf
+  written-by r f run h l d = simp (eq-eqb (length run) 4 l) (writes r f h d)
 
 -- an accepted set's call is written as the kept words, into any lent run of four
 pub written : (r : List ℕ) (f : Function) (run : List ℕ) → Registers r → length run ≡ 4 → decodeOf r ≡ accepted f → encodeOf f run ≡ accepted (kept r)
-unfolding encodeOf
-written r f run h l d = simp (eq-eqb (length run) 4 l) (writes r f h d)
+unfolding decodeOf
+written r f run h l d = written-by whole r f run h l d
+
+pub written-smccc : (r : List ℕ) (f : Function) (run : List ℕ) → Registers r → length run ≡ 4 → decodeSmccc r ≡ accepted f →
+    encodeOf f run ≡ accepted (keptSmccc r)
+unfolding decodeSmccc
+written-smccc r f run h l d = written-by lowHalf r f run h l d
 
 decodes : (r : List ℕ) → decodeOf r ≡ callIn (kept r)
-unfolding decodeOf
+unfolding decodeOf decodeBy
 decodes r = refl
+
+decodes-smccc : (r : List ℕ) → decodeSmccc r ≡ callIn (keptSmccc r)
+unfolding decodeSmccc decodeBy
+decodes-smccc r = refl
 
 pub demand3-of-01 : Demand3Of01
 demand3-of-01 = demand3 psci (record { call = callIn; decodes = decodes; writes = written })
+
+pub demand3-of-smccc : Demand3OfSmccc
+demand3-of-smccc = demand3 smccc (record { call = callIn; decodes = decodes-smccc; writes = written-smccc })

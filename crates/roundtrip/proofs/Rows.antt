@@ -12,7 +12,7 @@ use Rattle.refusals.proofs.Answering.{same-accepted}
 use Rattle.function_ids.specs.FunctionIds.{Form, narrow, wide, functionNumber}
 use Rattle.function_ids.specs.declared.FunctionId.{FunctionId}
 use Rattle.function_ids.specs.declared.FunctionId.the-variants as id
-use Rattle.function_ids.specs.CallTable.{lowHalf, whole, Look, nothing, value, zeroOrNot, ruleOf, lookAt, valueIn}
+use Rattle.function_ids.specs.CallTable.{Part, lowHalf, whole, Look, nothing, value, zeroOrNot, ruleOf, lookBy, valueIn}
 use Rattle.words.specs.Mpidrs.{readMpidr32, readMpidr64, writeMpidr64}
 use Rattle.words.specs.declared.mpidrs.Mpidr.{Mpidr}
 use Rattle.words.proofs.MpidrWords.{mpidr32-wide, mpidr64-wide}
@@ -113,41 +113,43 @@ protect-row zero h = refl
 protect-row (suc zero) h = refl
 protect-row (suc (suc a)) h = absurd (omega arith)
 
-pub row-law : (f : FunctionId) (a b c : ℕ) → FitsLook (lookAt (functionNumber f) 1) a → FitsLook (lookAt (functionNumber f) 2) b → FitsLook (lookAt (functionNumber f) 3) c →
+-- whichever part of r1 memory protect looks at
+pub row-law : (protect : Part) (f : FunctionId) (a b c : ℕ) →
+    FitsLook (lookBy protect (functionNumber f) 1) a → FitsLook (lookBy protect (functionNumber f) 2) b → FitsLook (lookBy protect (functionNumber f) 3) c →
     WritesBackAs (callOf f (valueIn (ruleOf (functionNumber f) .fields) (row f a b c))) (row f a b c)
 unfolding ruleOf wordsOf functionIdOf argumentsOf
-row-law id.PsciVersion a b c p q s = zeros p q s
-row-law id.CpuSuspend32 a b c p q s = state-row _ _ a p (λ x e. simp e)
-row-law id.CpuSuspend64 a b c p q s = state-row _ _ a p (λ x e. simp e)
-row-law id.CpuOff a b c p q s = zeros p q s
-row-law id.CpuOn32 a b c p q s = mpidr-row narrow _ _ a (λ m k e. simp (k, e))
-row-law id.CpuOn64 a b c p q s = mpidr-row wide _ _ a (λ m k e. simp (k, e))
-row-law id.AffinityInfo32 a b c p q s = level-row narrow 2 a b _ (λ m k e. simp (k, e, s))
-row-law id.AffinityInfo64 a b c p q s = level-row wide 3 a b _ (λ m k e. simp (k, e, s))
-row-law id.Migrate32 a b c p q s = mpidr-row narrow _ _ a (λ m k e. simp (k, e, q, s))
-row-law id.Migrate64 a b c p q s = mpidr-row wide _ _ a (λ m k e. simp (k, e, q, s))
-row-law id.MigrateInfoType a b c p q s = zeros p q s
-row-law id.MigrateInfoUpCpu32 a b c p q s = zeros p q s
-row-law id.MigrateInfoUpCpu64 a b c p q s = zeros p q s
-row-law id.SystemOff a b c p q s = zeros p q s
-row-law id.SystemReset a b c p q s = zeros p q s
-row-law id.PsciFeatures a b c p q s = number-row _ _ _ _ (word-laws .feature-writes-back) a p (λ x e. simp (e, q, s))
-row-law id.CpuFreeze a b c p q s = zeros p q s
-row-law id.CpuDefaultSuspend32 a b c p q s = simp s
-row-law id.CpuDefaultSuspend64 a b c p q s = simp s
-row-law id.NodeHwState32 a b c p q s = mpidr-row narrow _ _ a (λ m k e. simp (k, e, s))
-row-law id.NodeHwState64 a b c p q s = mpidr-row wide _ _ a (λ m k e. simp (k, e, s))
-row-law id.SystemSuspend32 a b c p q s = simp s
-row-law id.SystemSuspend64 a b c p q s = simp s
-row-law id.PsciSetSuspendMode a b c p q s = number-row _ _ _ _ (word-laws .mode-writes-back) a p (λ x e. simp (e, q, s))
-row-law id.PsciStatResidency32 a b c p q s = core-state-row narrow _ _ a b q (λ m x k e u. simp (k, e, u, s))
-row-law id.PsciStatResidency64 a b c p q s = core-state-row wide _ _ a b q (λ m x k e u. simp (k, e, u, s))
-row-law id.PsciStatCount32 a b c p q s = core-state-row narrow _ _ a b q (λ m x k e u. simp (k, e, u, s))
-row-law id.PsciStatCount64 a b c p q s = core-state-row wide _ _ a b q (λ m x k e u. simp (k, e, u, s))
-row-law id.SystemReset232 a b c p q s = word-row _ _ _ _ (reset-type-laws .reset-type-writes-back) a p (λ x e. simp (e, s))
-row-law id.SystemReset264 a b c p q s = word-row _ _ _ _ (reset-type-laws .reset-type-writes-back) a p (λ x e. simp (e, s))
-row-law id.MemProtect a b c p q s = rw (q, s) (protect-row a p)
-row-law id.MemProtectCheckRange32 a b c p q s = simp s
-row-law id.MemProtectCheckRange64 a b c p q s = simp s
-row-law id.SystemOff232 a b c p q s = number-row _ _ _ _ (word-laws .off-type-writes-back) a p (λ x e. simp (e, s))
-row-law id.SystemOff264 a b c p q s = number-row _ _ _ _ (word-laws .off-type-writes-back) a p (λ x e. simp (e, s))
+row-law protect id.PsciVersion a b c p q s = zeros p q s
+row-law protect id.CpuSuspend32 a b c p q s = state-row _ _ a p (λ x e. simp e)
+row-law protect id.CpuSuspend64 a b c p q s = state-row _ _ a p (λ x e. simp e)
+row-law protect id.CpuOff a b c p q s = zeros p q s
+row-law protect id.CpuOn32 a b c p q s = mpidr-row narrow _ _ a (λ m k e. simp (k, e))
+row-law protect id.CpuOn64 a b c p q s = mpidr-row wide _ _ a (λ m k e. simp (k, e))
+row-law protect id.AffinityInfo32 a b c p q s = level-row narrow 2 a b _ (λ m k e. simp (k, e, s))
+row-law protect id.AffinityInfo64 a b c p q s = level-row wide 3 a b _ (λ m k e. simp (k, e, s))
+row-law protect id.Migrate32 a b c p q s = mpidr-row narrow _ _ a (λ m k e. simp (k, e, q, s))
+row-law protect id.Migrate64 a b c p q s = mpidr-row wide _ _ a (λ m k e. simp (k, e, q, s))
+row-law protect id.MigrateInfoType a b c p q s = zeros p q s
+row-law protect id.MigrateInfoUpCpu32 a b c p q s = zeros p q s
+row-law protect id.MigrateInfoUpCpu64 a b c p q s = zeros p q s
+row-law protect id.SystemOff a b c p q s = zeros p q s
+row-law protect id.SystemReset a b c p q s = zeros p q s
+row-law protect id.PsciFeatures a b c p q s = number-row _ _ _ _ (word-laws .feature-writes-back) a p (λ x e. simp (e, q, s))
+row-law protect id.CpuFreeze a b c p q s = zeros p q s
+row-law protect id.CpuDefaultSuspend32 a b c p q s = simp s
+row-law protect id.CpuDefaultSuspend64 a b c p q s = simp s
+row-law protect id.NodeHwState32 a b c p q s = mpidr-row narrow _ _ a (λ m k e. simp (k, e, s))
+row-law protect id.NodeHwState64 a b c p q s = mpidr-row wide _ _ a (λ m k e. simp (k, e, s))
+row-law protect id.SystemSuspend32 a b c p q s = simp s
+row-law protect id.SystemSuspend64 a b c p q s = simp s
+row-law protect id.PsciSetSuspendMode a b c p q s = number-row _ _ _ _ (word-laws .mode-writes-back) a p (λ x e. simp (e, q, s))
+row-law protect id.PsciStatResidency32 a b c p q s = core-state-row narrow _ _ a b q (λ m x k e u. simp (k, e, u, s))
+row-law protect id.PsciStatResidency64 a b c p q s = core-state-row wide _ _ a b q (λ m x k e u. simp (k, e, u, s))
+row-law protect id.PsciStatCount32 a b c p q s = core-state-row narrow _ _ a b q (λ m x k e u. simp (k, e, u, s))
+row-law protect id.PsciStatCount64 a b c p q s = core-state-row wide _ _ a b q (λ m x k e u. simp (k, e, u, s))
+row-law protect id.SystemReset232 a b c p q s = word-row _ _ _ _ (reset-type-laws .reset-type-writes-back) a p (λ x e. simp (e, s))
+row-law protect id.SystemReset264 a b c p q s = word-row _ _ _ _ (reset-type-laws .reset-type-writes-back) a p (λ x e. simp (e, s))
+row-law protect id.MemProtect a b c p q s = rw (q, s) (protect-row a p)
+row-law protect id.MemProtectCheckRange32 a b c p q s = simp s
+row-law protect id.MemProtectCheckRange64 a b c p q s = simp s
+row-law protect id.SystemOff232 a b c p q s = number-row _ _ _ _ (word-laws .off-type-writes-back) a p (λ x e. simp (e, s))
+row-law protect id.SystemOff264 a b c p q s = number-row _ _ _ _ (word-laws .off-type-writes-back) a p (λ x e. simp (e, s))

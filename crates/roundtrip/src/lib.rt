@@ -1,10 +1,12 @@
-// Demand 3: what is decoded encodes, decodes back and is zero elsewhere: statement, proof, and `recode`, the program's part in it.
+// Demand 3: what is decoded encodes, decodes back and is zero elsewhere: statement, proof, and `recode` and `recode_smccc`, the program's part
+// in it.
 ghost use mathlib.Core.Path.{_≡_};
 ghost use Rattle.refusals.specs.Lent.{left};
-ghost use Rattle.decode_definition.specs.Decode.{decodeOf};
+ghost use Rattle.decode_definition.specs.Decode.{decodeOf, decodeSmccc};
 ghost use Rattle.encode.specs.Answers.{encodeAnswer};
 ghost use Rattle.encode.specs.declared.EncodeResult.the-variants.{Ok as Written};
-ghost use Rattle.roundtrip.specs.Recode.{recodeOf};
+ghost use Rattle.roundtrip.specs.Recode.{recodeOf, recodeSmccc};
+use decode::registers::low_half_for_protect;
 use encode::EncodeResult;
 use function::FunctionResult;
 
@@ -18,4 +20,13 @@ pub fn recode(regs: [u64; 4], out: &mut [u64]) -> EncodeResult
         FunctionResult::Ok(function) => encode::encode(function, out),
         FunctionResult::Err(error) => EncodeResult::Err(error),
     }
+}
+
+// The same by Change 2's decoder: memory protect is written by the low half of r1. Refused as `recode` refuses, and a refusal leaves the run as it
+// was. It is `recode` of the set that `decode_smccc` reads, so that one call gives the answer.
+pub fn recode_smccc(regs: [u64; 4], out: &mut [u64]) -> EncodeResult
+    ensures { λ r. ⌜ (encodeAnswer r (now (out .exit)) ≡ recodeSmccc regs (now (out .entry))) × (now (out .exit) ≡ left (recodeSmccc regs (now (out .entry))) (now (out .entry))) ⌝ }
+    ensures { λ r. ⌜ (r ≡ Written → decodeSmccc (now (out .exit)) ≡ decodeSmccc regs) ⌝ }
+{
+    recode(low_half_for_protect(regs), out)
 }
