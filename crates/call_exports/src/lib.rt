@@ -1,12 +1,16 @@
-// The codec over plain words, for callers in C and Rust: decode, encode, and one after the other. A call is handed over as nine words.
+// The codec over plain words, for callers in C and Rust: decode, encode, and one after the other; what decodes, by document 01's decoder and by
+// Change 2's. A call is handed over as nine words.
+ghost use mathlib.Core.List.{List};
 ghost use mathlib.Core.Path.{_≡_};
+ghost use Prim.Native.Nat.{ℕ};
 ghost use lib.IntN.{pos};
 ghost use lib.ListN.{length};
 ghost use Rattle.refusals.specs.Answers.{through};
 ghost use Rattle.refusals.specs.Errors.{refusalNumber, refusalValue};
 ghost use Rattle.refusals.specs.Lent.{left};
-ghost use Rattle.decode_definition.specs.Decode.{decodeOf};
-ghost use Rattle.roundtrip.specs.Recode.{recodeOf};
+ghost use Rattle.decode_definition.specs.Decode.{decodeOf, decodeSmccc};
+ghost use Rattle.encode.specs.Answers.{encodeAnswer};
+ghost use Rattle.roundtrip.specs.Recode.{recodeOf, recodeSmccc};
 ghost use Rattle.call_exports.specs.CallWords.{callWords};
 ghost use Rattle.call_exports.specs.Exports.{refusalIs, refusalIn, encodeWords};
 
@@ -20,6 +24,7 @@ pub mod plain_words;
 use crate::call_asked::Asked;
 use crate::call_asked::call_asked;
 use crate::call_words::call_words;
+use decode::registers::low_half_for_protect;
 use encode::EncodeResult;
 use function::FunctionResult;
 use refusals::Error;
@@ -67,6 +72,16 @@ fn store(words: [u64; 9], out: &mut [u64])
     out[8] = words[8];
 }
 
+// What encoding said, whatever it has written.
+fn told_words(answer: EncodeResult) -> Refusal
+    ensures { λ r. ⌜ ((words : List ℕ) → r ≡ refusalIn (encodeAnswer answer words)) ⌝ }
+{
+    match answer {
+        EncodeResult::Ok => accepted_words(),
+        EncodeResult::Err(error) => refusal_of(error),
+    }
+}
+
 // The nine words of the call that four registers make. Refused with decode's numbers, 1 to 8; the lent words are then as they were.
 #[no_mangle]
 pub extern "C" fn psci_decode(regs: &[u64; 4], out: &mut [u64; 9]) -> Refusal
@@ -74,6 +89,22 @@ pub extern "C" fn psci_decode(regs: &[u64; 4], out: &mut [u64; 9]) -> Refusal
 {
     let r = *regs;
     match decode::decode(r) {
+        FunctionResult::Ok(function) => {
+            store(call_words(function), out);
+            accepted_words()
+        }
+        FunctionResult::Err(error) => refusal_of(error),
+    }
+}
+
+// The same by Change 2's decoder: memory protect looks at the low half of r1. Refused as `psci_decode` refuses. It has the steps of
+// `decode_smccc` itself: the compiler copies an answer that comes through two functions (docs/BENCHMARKS.md).
+#[no_mangle]
+pub extern "C" fn psci_decode_smccc(regs: &[u64; 4], out: &mut [u64; 9]) -> Refusal
+    ensures { λ r. ⌜ (r ≡ refusalIn (decodeSmccc (now (regs .entry)))) × (now (out .exit) ≡ left (through callWords (decodeSmccc (now (regs .entry)))) (now (out .entry))) ⌝ }
+{
+    let r = *regs;
+    match decode::decode(low_half_for_protect(r)) {
         FunctionResult::Ok(function) => {
             store(call_words(function), out);
             accepted_words()
@@ -90,10 +121,7 @@ pub extern "C" fn psci_encode(call: &[u64; 9], out: &mut [u64; 4]) -> Refusal
 {
     let c = *call;
     match call_asked(c) {
-        Asked::Call(function) => match encode::encode(function, out) {
-            EncodeResult::Ok => accepted_words(),
-            EncodeResult::Err(error) => refusal_of(error),
-        },
+        Asked::Call(function) => told_words(encode::encode(function, out)),
         Asked::UnknownTag(tag) => Refusal {
             number: 1002,
             carried: tag,
@@ -111,8 +139,14 @@ pub extern "C" fn psci_recode(regs: &[u64; 4], out: &mut [u64; 4]) -> Refusal
     ensures { λ r. ⌜ (r ≡ refusalIn (recodeOf (now (regs .entry)) (now (out .entry)))) × (now (out .exit) ≡ left (recodeOf (now (regs .entry)) (now (out .entry))) (now (out .entry))) ⌝ }
 {
     let r = *regs;
-    match roundtrip::recode(r, out) {
-        EncodeResult::Ok => accepted_words(),
-        EncodeResult::Err(error) => refusal_of(error),
-    }
+    told_words(roundtrip::recode(r, out))
+}
+
+// The same by Change 2's decoder: memory protect is written by the low half of r1. Refused as `psci_recode` refuses.
+#[no_mangle]
+pub extern "C" fn psci_recode_smccc(regs: &[u64; 4], out: &mut [u64; 4]) -> Refusal
+    ensures { λ r. ⌜ (r ≡ refusalIn (recodeSmccc (now (regs .entry)) (now (out .entry)))) × (now (out .exit) ≡ left (recodeSmccc (now (regs .entry)) (now (out .entry))) (now (out .entry))) ⌝ }
+{
+    let r = *regs;
+    told_words(roundtrip::recode_smccc(r, out))
 }

@@ -9,13 +9,13 @@ use Rattle.call_exports.proofs.psci_decode.Tie as tie
 
 returns : tie.Need-returns
 returns c =
-    told-call (c .before .before .before .before .before .before .before .before .before .args .regs .now) (c .before .before .before .before .before .before .before .before .before .args .out .now) (search needs)
+    told-call _ (c .before .before .before .before .before .before .before .before .before .args .out .now) (search needs)
     (sym (c .before .before .before .before .before .before .before .decode .ensures) ∙ ap functionAnswer (c .before .before .before .before .before .function .given .1))
     (c .accepted-words .ensures) (c .before .store .ensures ∙ c .before .before .before .call-words .ensures)
 
 returns-2 : tie.Need-returns-2
 returns-2 c =
-    told-refusal (c .before .before .before .before .before .before .args .regs .now) (c .before .before .before .before .before .before .args .out .now)
+    told-refusal _ (c .before .before .before .before .before .before .args .out .now)
     (sym (c .before .before .before .before .decode .ensures) ∙ ap functionAnswer (c .before .before .error .given .1))
     (c .refusal-of .ensures)
 

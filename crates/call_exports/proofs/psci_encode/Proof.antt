@@ -9,25 +9,19 @@ use Rattle.call_exports.proofs.psci_encode.Tie as tie
 
 returns : tie.Need-returns
 returns c =
-    told-asked (c .before .before .before .before .before .before .before .before .before .before .args .call .now) (c .before .before .before .before .before .before .before .before .before .before .args .out .now) _ (c .before .before .before .encode .result) _ _
-    (sym (c .before .before .before .before .before .before .before .before .call-asked .ensures) ∙ ap askedAnswer (c .before .before .before .before .before .before .function .given .1))
-    (c .before .before .before .encode .ensures) (c .before .enum-told .given .1) (c .accepted-words .ensures)
+    told-asked (c .before .before .before .before .before .before .before .before .args .call .now) (c .before .before .before .before .before .before .before .before .args .out .now) _ (c .before .encode .result) _
+    (sym (c .before .before .before .before .before .before .call-asked .ensures) ∙ ap askedAnswer (c .before .before .before .before .function .given .1))
+    (c .before .encode .ensures) (c .told-words .ensures)
 
 returns-2 : tie.Need-returns-2
 returns-2 c =
-    told-asked (c .before .before .before .before .before .before .before .before .before .before .before .args .call .now) (c .before .before .before .before .before .before .before .before .before .before .before .args .out .now) _ (c .before .before .before .before .encode .result) _ _
-    (sym (c .before .before .before .before .before .before .before .before .before .call-asked .ensures) ∙ ap askedAnswer (c .before .before .before .before .before .before .before .function .given .1))
-    (c .before .before .before .before .encode .ensures) (c .before .before .error .given .1) (c .refusal-of .ensures)
-
-returns-3 : tie.Need-returns-3
-returns-3 c =
     told-unasked (c .before .before .before .before .before .args .call .now) (c .before .before .before .before .before .args .out .now)
     (sym (c .before .before .before .call-asked .ensures) ∙ ap askedAnswer (c .before .tag .given .1))
 
-returns-4 : tie.Need-returns-4
-returns-4 c =
+returns-3 : tie.Need-returns-3
+returns-3 c =
     told-unasked (c .before .before .before .before .args .call .now) (c .before .before .before .before .args .out .now)
-    (sym (c .before .before .call-asked .ensures) ∙ ap askedAnswer (c .enum-told2 .given .1))
+    (sym (c .before .before .call-asked .ensures) ∙ ap askedAnswer (c .enum-told .given .1))
 
 pub psci-encode-spec : {M : Type 1} → statement M
 psci-encode-spec =
@@ -36,13 +30,9 @@ psci-encode-spec =
     (λ c κs. search needs)
     (λ c. search needs)
     (λ c κs. search needs)
-    (λ c. search needs)
-    (λ c κs. search needs)
-    (λ c. search needs)
     (λ c κs. search needs)
     (λ c. search needs)
     (λ c. search needs)
     returns
     returns-2
-    returns-3
-    returns-4)
+    returns-3)
