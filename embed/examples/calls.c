@@ -1,5 +1,5 @@
 /* calls R0 R1 R2 R3: what firmware does with a power call, in small. Four registers in hexadecimal; out come the call or its refusal, and the
- * record's line as a sheet has it. The example in Rust, calls.rs, prints the same. */
+ * record's line as a sheet has it; both by the low half of r1 for memory protect. The example in Rust, calls.rs, prints the same. */
 #include <inttypes.h>
 #include <stdio.h>
 #include <string.h>
@@ -22,7 +22,7 @@ static void show_state(const uint64_t *state) {
     printf("%s, state 0x%" PRIx64, state[PSCI_POWER_STATE_DOWN] ? "power down" : "standby", state[PSCI_POWER_STATE_ID]);
 }
 
-/* Three calls in their own words; of any other its function number, which stands in the first of its four words. */
+/* Four calls in their own words; of any other its function number, which stands in the first of its four words. */
 static void show_call(const uint64_t call[PSCI_CALL_WORDS]) {
     uint64_t words[PSCI_REGISTERS] = {0};
 
@@ -41,6 +41,9 @@ static void show_call(const uint64_t call[PSCI_CALL_WORDS]) {
         show_core(call + PSCI_CPU_ON_TARGET_CPU);
         printf(": ");
         show_entry(call + PSCI_CPU_ON_ENTRY);
+        break;
+    case PSCI_TAG_MEM_PROTECT:
+        printf("%s memory protection", call[PSCI_MEM_PROTECT_ENABLED] ? "enable" : "disable");
         break;
     default:
         psci_encode(call, words); /* the call was decoded, so it is not refused */
@@ -74,7 +77,7 @@ int main(int count, char **arguments) {
         return 2;
     }
 
-    struct psci_refusal refusal = psci_decode(regs, call);
+    struct psci_refusal refusal = psci_decode_smccc(regs, call);
     if (refusal.number == PSCI_ACCEPTED)
         show_call(call);
     else

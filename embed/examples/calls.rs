@@ -1,5 +1,6 @@
 //! `calls R0 R1 R2 R3`: what firmware does with a power call, in small. Four registers in hexadecimal; out come the call or its refusal, and the
-//! record's line as a sheet has it. The example in C, calls.c, prints the same. Firmware that used arm-psci has these names in its code.
+//! record's line as a sheet has it; both by the low half of r1 for memory protect. The example in C, calls.c, prints the same. Firmware that used
+//! arm-psci has these names in its code, but for `try_from_smccc`: it has `Function::try_from(&regs)`, which looks at all of r1.
 use rampcomfrey as arm_psci;
 
 use arm_psci::{EntryPoint, Error, ErrorCode, Function, Mpidr, PowerState};
@@ -22,7 +23,7 @@ fn state_name(state: PowerState) -> String {
     }
 }
 
-/// Three calls in their own words; of any other its function number.
+/// Four calls in their own words; of any other its function number.
 fn told(call: Function) -> Result<String, Error> {
     Ok(match call {
         Function::CpuSuspend { state, entry } => {
@@ -32,6 +33,7 @@ fn told(call: Function) -> Result<String, Error> {
         Function::CpuOn { target_cpu, entry } => {
             format!("turn on {}: {}", core_name(target_cpu), start(entry))
         }
+        Function::MemProtect { enabled } => format!("{} memory protection", if enabled { "enable" } else { "disable" }),
         other => format!("another call, number {:#x}", u32::from(other.function_id()?)),
     })
 }
@@ -49,7 +51,7 @@ fn main() {
         eprintln!("calls: four registers are expected, each of 1 to 16 hexadecimal digits");
         std::process::exit(2);
     };
-    match Function::try_from(&regs).and_then(told) {
+    match Function::try_from_smccc(&regs).and_then(told) {
         Ok(text) => println!("{text}"),
         // the number and the value of the refusal are in the record's line
         Err(error) => println!("refused: answer {}", i32::from(ErrorCode::from(error))),

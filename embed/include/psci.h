@@ -1,10 +1,12 @@
 /* Power calls between system images and board firmware (Arm's PSCI), for callers in C11 and C++11.
  *
  * A power call comes as four registers, r0 to r3. psci_decode turns them into a call, psci_encode a call into four words, psci_recode does one
- * after the other, and psci_line writes a record's line of a sheet. Every function is proved to give what its definition says, for all contents
- * of what it is lent; docs/PROMISES.md leads to the definitions. docs/EMBEDDING.md says how to build and link the archives:
+ * after the other, and psci_line writes a record's line of a sheet. psci_decode and psci_recode read memory protect as the Rust crate arm-psci
+ * does, by all of r1; psci_decode_smccc and psci_recode_smccc, and psci_line, by its low half, as the SMC Calling Convention gives it to a 32-bit
+ * call. Every function is proved to give what its definition says, for all contents of what it is lent; docs/PROMISES.md leads to the
+ * definitions. docs/EMBEDDING.md says how to build and link the archives:
  *
- *   libcall_exports.a   psci_decode, psci_encode, psci_recode
+ *   libcall_exports.a   psci_decode, psci_decode_smccc, psci_encode, psci_recode, psci_recode_smccc
  *   libline_exports.a   psci_line
  *
  * What a caller owes: each pointer is to as many words or bytes as its parameter says, aligned for them; nothing else writes to them during the
@@ -198,17 +200,25 @@ enum psci_place {
 /* The call that the four registers make. Accepted: all nine words of call are written. Refused, 1 to 8: call is left as it was. */
 struct psci_refusal psci_decode(const uint64_t regs[PSCI_REGISTERS], uint64_t call[PSCI_CALL_WORDS]);
 
+/* The same, but that memory protect (PSCI_TAG_MEM_PROTECT) is enabled where the low half of r1 is not zero, whatever its high half holds. With r1
+ * 0x100000000 it is disabled here, and enabled by psci_decode. Every other call, and every refusal, is psci_decode's; refused, 1 to 8, call is left
+ * as it was. */
+struct psci_refusal psci_decode_smccc(const uint64_t regs[PSCI_REGISTERS], uint64_t call[PSCI_CALL_WORDS]);
+
 /* The four words of a call: its function number, its fields in their registers, all other bits zero. Accepted: all four words of out are
- * written. Refused, 1002, 1003, 14, 15 or 31: out is left as it was. Words that psci_decode gave were never refused in any run; that they
- * can't be is not proved of the nine words. psci_recode, which hands over no words, is proved to refuse what decode refuses and nothing
- * else. */
+ * written. Refused, 1002, 1003, 14, 15 or 31: out is left as it was. Words that a decoder gave were never refused in any run; that they can't be
+ * is not proved of the nine words. psci_recode and psci_recode_smccc, which hand over no words, are proved to refuse what their decoder refuses
+ * and nothing else. */
 struct psci_refusal psci_encode(const uint64_t call[PSCI_CALL_WORDS], uint64_t out[PSCI_REGISTERS]);
 
 /* Decodes four registers and encodes the call: what is left are the function number and its fields. Accepted: all four words of out are
  * written. Refused, 1 to 8: out is left as it was. */
 struct psci_refusal psci_recode(const uint64_t regs[PSCI_REGISTERS], uint64_t out[PSCI_REGISTERS]);
 
-/* The line of the record of that number with those registers: the number, then "ok" and the four words that psci_recode gives, or "no", the
+/* The same by psci_decode_smccc: the second word of memory protect is 0 or 1 by the low half of r1. Refused, 1 to 8: out is left as it was. */
+struct psci_refusal psci_recode_smccc(const uint64_t regs[PSCI_REGISTERS], uint64_t out[PSCI_REGISTERS]);
+
+/* The line of the record of that number with those registers: the number, then "ok" and the four words that psci_recode_smccc gives, or "no", the
  * refusal's number and what it carries; words and values as 16 hexadecimal digits, one space between all, a line feed at the end. Accepted:
  * value bytes at the front of out are the line, the rest of out is left as it was. Refused, PSCI_BAD_NUMBER: out is left as it was. */
 struct psci_written psci_line(size_t number, const uint64_t regs[PSCI_REGISTERS], uint8_t out[PSCI_LINE_BYTES]);

@@ -1,5 +1,6 @@
-/* names: every name of psci.h, on values put down from document 01, for refusal 31 from document 02: each call by its tag and parts, each
- * function by its place, each refusal. Prints how many cases there were; a case that fails is named on standard error. In C11 and in C++11. */
+/* names: every name of psci.h, on values put down from document 01, for refusal 31 and memory protect by Change 2 from document 02: each call by
+ * its tag and parts, each function by its place, each refusal. Prints how many cases there were; a case that fails is named on standard error.
+ * In C11 and in C++11. */
 #include <inttypes.h>
 #include <stdio.h>
 #include <string.h>
@@ -153,6 +154,18 @@ static const struct {
     {{PSCI_TAG_CPU_OFF, 0, 0, 0, 0, 0, 0, 0, 1}, PSCI_WRONG_PART, 0},
 };
 
+/* Memory protect: r1, and whether it is enabled by all of r1 and by its low half. */
+static const struct {
+    uint64_t r1, whole, low;
+} protect[] = {
+    {0, 0, 0},
+    {1, 1, 1},
+    {0x80000000, 1, 1},
+    {0x100000000, 1, 0},
+    {0xffffffff00000000, 1, 0},
+    {0x100000001, 1, 1},
+};
+
 static int cases, failed;
 
 static void check(int good, const char *what, uint64_t which) {
@@ -167,13 +180,39 @@ static int is(struct psci_refusal refusal, uint64_t number, uint64_t carried) {
     return refusal.number == number && refusal.carried == carried;
 }
 
-/* The registers decode to these nine words, and the words encode to the registers. */
-static int same(const uint64_t regs[PSCI_REGISTERS], const uint64_t call[PSCI_CALL_WORDS]) {
-    uint64_t decoded[PSCI_CALL_WORDS], words[PSCI_REGISTERS];
+typedef struct psci_refusal (*decoder)(const uint64_t regs[PSCI_REGISTERS], uint64_t call[PSCI_CALL_WORDS]);
+typedef struct psci_refusal (*recoder)(const uint64_t regs[PSCI_REGISTERS], uint64_t out[PSCI_REGISTERS]);
+
+/* The registers decode to these nine words. */
+static int decodes(decoder decode, const uint64_t regs[PSCI_REGISTERS], const uint64_t call[PSCI_CALL_WORDS]) {
+    uint64_t decoded[PSCI_CALL_WORDS];
     memset(decoded, 0xa5, sizeof decoded);
+    return is(decode(regs, decoded), PSCI_ACCEPTED, 0) && memcmp(decoded, call, sizeof decoded) == 0;
+}
+
+/* The registers are written again as these words. */
+static int rewrites(recoder recode, const uint64_t regs[PSCI_REGISTERS], const uint64_t out[PSCI_REGISTERS]) {
+    uint64_t words[PSCI_REGISTERS];
     memset(words, 0xa5, sizeof words);
-    return is(psci_decode(regs, decoded), PSCI_ACCEPTED, 0) && memcmp(decoded, call, sizeof decoded) == 0 &&
-           is(psci_encode(call, words), PSCI_ACCEPTED, 0) && memcmp(words, regs, sizeof words) == 0;
+    return is(recode(regs, words), PSCI_ACCEPTED, 0) && memcmp(words, out, sizeof words) == 0;
+}
+
+/* The registers decode to these nine words by both decoders, the words encode to the registers, and both write the registers again. */
+static int same(const uint64_t regs[PSCI_REGISTERS], const uint64_t call[PSCI_CALL_WORDS]) {
+    uint64_t words[PSCI_REGISTERS];
+    memset(words, 0xa5, sizeof words);
+    return decodes(psci_decode, regs, call) && decodes(psci_decode_smccc, regs, call) && is(psci_encode(call, words), PSCI_ACCEPTED, 0) &&
+           memcmp(words, regs, sizeof words) == 0 && rewrites(psci_recode, regs, regs) && rewrites(psci_recode_smccc, regs, regs);
+}
+
+/* Memory protect by one decoder: enabled or not, and written so. */
+static int protects(decoder decode, recoder recode, uint64_t r1, uint64_t enabled) {
+    const uint64_t regs[PSCI_REGISTERS] = {0x84000013, r1, 6, 7}, out[PSCI_REGISTERS] = {0x84000013, enabled, 0, 0};
+    uint64_t call[PSCI_CALL_WORDS];
+    memset(call, 0, sizeof call);
+    call[0] = PSCI_TAG_MEM_PROTECT;
+    call[PSCI_MEM_PROTECT_ENABLED] = enabled;
+    return decodes(decode, regs, call) && rewrites(recode, regs, out);
 }
 
 #define COUNT(list) (sizeof(list) / sizeof(list)[0])
@@ -199,6 +238,12 @@ int main(void) {
     for (size_t i = 0; i < COUNT(refused); i++) {
         check(is(psci_decode(refused[i].regs, call), refused[i].number, refused[i].carried), "refusal", refused[i].number);
         check(is(psci_recode(refused[i].regs, words), refused[i].number, refused[i].carried), "refusal of recode", refused[i].number);
+        check(is(psci_decode_smccc(refused[i].regs, call), refused[i].number, refused[i].carried), "refusal by Change 2", refused[i].number);
+        check(is(psci_recode_smccc(refused[i].regs, words), refused[i].number, refused[i].carried), "refusal of recode by Change 2", refused[i].number);
+    }
+    for (size_t i = 0; i < COUNT(protect); i++) {
+        check(protects(psci_decode, psci_recode, protect[i].r1, protect[i].whole), "memory protect by all of r1", protect[i].r1);
+        check(protects(psci_decode_smccc, psci_recode_smccc, protect[i].r1, protect[i].low), "memory protect by its low half", protect[i].r1);
     }
     for (size_t i = 0; i < COUNT(unwritten); i++)
         check(is(psci_encode(unwritten[i].call, words), unwritten[i].number, unwritten[i].carried), "refusal", unwritten[i].number);

@@ -1,4 +1,5 @@
-/* sheet line|recode < crates/sheet/stdin: the sheet of a whole log through C, each line by psci_line, or laid out here over psci_recode. */
+/* sheet line|recode_smccc < crates/sheet/stdin: the sheet of a whole log through C, each line by psci_line, or laid out here over
+ * psci_recode_smccc. */
 #include <inttypes.h>
 #include <stdio.h>
 #include <string.h>
@@ -33,7 +34,7 @@ static int by_line(size_t number, const uint64_t regs[PSCI_REGISTERS]) {
 static int by_recode(size_t number, const uint64_t regs[PSCI_REGISTERS]) {
     uint64_t out[PSCI_REGISTERS] = {1, 2, 3, 4};
 
-    struct psci_refusal refusal = psci_recode(regs, out);
+    struct psci_refusal refusal = psci_recode_smccc(regs, out);
     if (refusal.number == PSCI_ACCEPTED) {
         printf("%zu ok %016" PRIx64 " %016" PRIx64 " %016" PRIx64 " %016" PRIx64 "\n", number, out[0], out[1], out[2], out[3]);
         return refusal.carried == 0;
@@ -59,8 +60,8 @@ int main(int count, char **arguments) {
     size_t records = 0;
     int good = 1;
 
-    if (count != 2 || (strcmp(arguments[1], "line") != 0 && strcmp(arguments[1], "recode") != 0)) {
-        fprintf(stderr, "sheet: line or recode is expected\n");
+    if (count != 2 || (strcmp(arguments[1], "line") != 0 && strcmp(arguments[1], "recode_smccc") != 0)) {
+        fprintf(stderr, "sheet: line or recode_smccc is expected\n");
         return 2;
     }
     int is_line = strcmp(arguments[1], "line") == 0;

@@ -55,6 +55,17 @@ pub(crate) fn show_lines() {
         &mut long,
     );
     show_line(10, [0x8400_0003, 0x0100_0000, 0, 0], &mut long);
+    show_protect();
+}
+
+// Memory protect: a line has the low half of r1. The high half of a 64-bit field stays.
+fn show_protect() {
+    let mut out = [b'.'; 80];
+    show_line(2, [0x8400_0013, 0x1_0000_0000, 6, 7], &mut out);
+    show_line(3, [0x8400_0013, 0xffff_ffff_0000_0000, 6, 7], &mut out);
+    show_line(4, [0x8400_0013, 0x8000_0000, 6, 7], &mut out);
+    show_line(5, [0x8400_0013, 0xffff_ffff_0000_0001, 6, 7], &mut out);
+    show_line(6, [0xc400_0005, 0x1_0000_0000, 6, 7], &mut out);
 }
 
 // The example's sheet, exactly as long as the length that it was given.

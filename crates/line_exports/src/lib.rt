@@ -27,7 +27,8 @@ fn refused_line(error: LineError) -> Written
     }
 }
 
-// Writes the line of a record, by its number and its four registers, at the front of the lent bytes. A refusal leaves them as they were.
+// Writes the line of a record, by its number and its four registers, at the front of the lent bytes; memory protect by the low half of r1. Refused
+// with 24, a number above 1,899; the lent bytes are then as they were.
 #[no_mangle]
 pub extern "C" fn psci_line(number: usize, regs: &[u64; 4], out: &mut [u8; 80]) -> Written
     ensures { λ r. ⌜ (r ≡ writtenIn (through length (lineOf number (now (regs .entry)) (now (out .entry))))) × (now (out .exit) ≡ left (lineOf number (now (regs .entry)) (now (out .entry))) (now (out .entry))) ⌝ }

@@ -1,4 +1,4 @@
-// The operations on calls in a record: decode, encode, and the function number.
+// The operations on calls in a record: decode by both decoders, encode, and the function number.
 use crate::records::UNKNOWN_TAG;
 use crate::records::WRONG_PART;
 use crate::records::given;
@@ -16,11 +16,19 @@ use encode::EncodeResult;
 use function::FunctionResult;
 use function_ids::FunctionIdResult;
 
-pub(crate) fn decode_record(w: [u64; 16]) -> [u64; 16] {
-    match decode::decode(regs_in(w)) {
+fn decoded_record(w: [u64; 16], decoded: FunctionResult) -> [u64; 16] {
+    match decoded {
         FunctionResult::Ok(function) => given(w, call_words(function)),
         FunctionResult::Err(error) => refused(w, error),
     }
+}
+
+pub(crate) fn decode_record(w: [u64; 16]) -> [u64; 16] {
+    decoded_record(w, decode::decode(regs_in(w)))
+}
+
+pub(crate) fn decode_smccc_record(w: [u64; 16]) -> [u64; 16] {
+    decoded_record(w, decode::decode_smccc(regs_in(w)))
 }
 
 pub(crate) fn encode_record(w: [u64; 16]) -> [u64; 16] {

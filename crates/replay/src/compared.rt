@@ -6,7 +6,7 @@ use crate::sweeps::SWEEP;
 use crate::sweeps::is_digest_same;
 use call_exports::plain_words::differing_bits;
 
-// Whether the answer to an operation writes the word at a place: a refusal writes its number and what it carries; decode and the readers
+// Whether the answer to an operation writes the word at a place: a refusal writes its number and what it carries; the decoders and the readers
 // write nine words; encode writes four registers, every other operation one.
 fn is_written(op: u64, refused: bool, place: usize) -> bool {
     if 14 <= place {

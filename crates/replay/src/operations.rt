@@ -1,6 +1,7 @@
-// The answer to a record, an arm for each operation. 0 to 2 are the calls'. 16 to 31 read one word, 32 and 33 make an MPIDR of the low
+// The answer to a record, an arm for each operation. 0 to 3 are the calls'. 16 to 31 read one word, 32 and 33 make an MPIDR of the low
 // bytes of the registers. 48 to 62 write one word, 63 turns a refusal into an error code, 64 and 65 are the entry point's two accessors.
 use crate::calls::decode_record;
+use crate::calls::decode_smccc_record;
 use crate::calls::encode_record;
 use crate::calls::function_id_record;
 use crate::readers;
@@ -40,6 +41,7 @@ pub(crate) fn answer(w: [u64; 16]) -> [u64; 16] {
         0 => decode_record(w),
         1 => encode_record(w),
         2 => function_id_record(w),
+        3 => decode_smccc_record(w),
         16 => readers::function_id(w, FunctionId::try_from_u32(word)),
         17 => readers::return_code(w, ReturnCode::try_from_i32(signs::signed_32(word))),
         18 => readers::error_code(w, ErrorCode::try_from_i32(signs::signed_32(word))),

@@ -43,7 +43,7 @@ fn show_words(w: [u64; 16], from: usize, to: usize) {
     }
 }
 
-// The answer to a record: readers give nine words, all others write registers. A word that was not written is as it was asked.
+// The answer to a record: the decoders and the readers give nine words, all others write registers. A word that was not written is as it was asked.
 fn show_answer(w: [u64; 16]) {
     if w[14] == 0 {
         io::write_all(1, b": accepted");

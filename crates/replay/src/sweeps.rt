@@ -1,4 +1,4 @@
-// A sweep: one reader asked about many words, and all words of its answers folded into one digest.
+// A sweep: one reader or decoder asked about many words, and all words of its answers folded into one digest.
 use crate::operations::answer;
 use crate::records::WRONG;
 
@@ -6,10 +6,10 @@ pub(crate) const SWEEP: u64 = 2000;
 
 const MAX_COUNT: u64 = 65536;
 
-// Word 1 is a reader's operation, word 2 a shift, word 3 a count. A sweep that says something else counts as one that differs.
+// Word 1 is a reader's or a decoder's operation, word 2 a shift, word 3 a count. A sweep that says something else counts as one that differs.
 fn is_sound(w: [u64; 16]) -> bool {
     let op = w[1];
-    (op == 0 || (16 <= op && op <= 31)) && w[2] < 64 && w[3] <= MAX_COUNT
+    (op == 0 || op == 3 || (16 <= op && op <= 31)) && w[2] < 64 && w[3] <= MAX_COUNT
 }
 
 fn folded_word(d: u64, word: u64) -> u64 {

@@ -1,4 +1,4 @@
-//! The four functions of the archives, as embed/include/psci.h declares them for C.
+//! The functions of the archives, as embed/include/psci.h declares them for C.
 use crate::Error;
 use core::mem::{align_of, offset_of, size_of};
 
@@ -29,8 +29,10 @@ const _: () = assert!(offset_of!(Written, number) == 0 && offset_of!(Written, va
 // `&[T; n]` and `&mut [T; n]` are thin pointers.
 extern "C" {
     fn psci_decode(regs: &[u64; 4], call: &mut Words) -> Refusal;
+    fn psci_decode_smccc(regs: &[u64; 4], call: &mut Words) -> Refusal;
     fn psci_encode(call: &Words, out: &mut [u64; 4]) -> Refusal;
     fn psci_recode(regs: &[u64; 4], out: &mut [u64; 4]) -> Refusal;
+    fn psci_recode_smccc(regs: &[u64; 4], out: &mut [u64; 4]) -> Refusal;
     fn psci_line(number: usize, regs: &[u64; 4], out: &mut [u8; 80]) -> Written;
 }
 
@@ -49,6 +51,14 @@ pub fn decode(regs: &[u64; 4]) -> Result<Words, Error> {
     Ok(call)
 }
 
+/// The same, with the low half of r1 for memory protect.
+pub fn decode_smccc(regs: &[u64; 4]) -> Result<Words, Error> {
+    let mut call = [0; 9];
+    // SAFETY: as in `decode`.
+    told(unsafe { psci_decode_smccc(regs, &mut call) })?;
+    Ok(call)
+}
+
 /// Writes the four words of a call; a refusal leaves `out` as it was.
 pub fn encode(call: &Words, out: &mut [u64; 4]) -> Result<(), Error> {
     // SAFETY: as in `decode`.
@@ -59,6 +69,12 @@ pub fn encode(call: &Words, out: &mut [u64; 4]) -> Result<(), Error> {
 pub fn recode(regs: &[u64; 4], out: &mut [u64; 4]) -> Result<(), Error> {
     // SAFETY: as in `decode`.
     told(unsafe { psci_recode(regs, out) })
+}
+
+/// The same, with the low half of r1 for memory protect.
+pub fn recode_smccc(regs: &[u64; 4], out: &mut [u64; 4]) -> Result<(), Error> {
+    // SAFETY: as in `decode`.
+    told(unsafe { psci_recode_smccc(regs, out) })
 }
 
 /// Writes a record's line and gives its length, or what the refusal carries; a refusal leaves `out` as it was.

@@ -49,6 +49,12 @@ impl TryFrom<[u64; 4]> for Function {
 }
 
 impl Function {
+    /// The call that four registers make, by the SMC Calling Convention: memory protect is enabled by the low half of r1, where `try_from` and
+    /// arm-psci look at all of it. Every other call, and every refusal, is `try_from`'s. A sheet's lines are written by this.
+    pub fn try_from_smccc(regs: &[u64; 4]) -> Result<Self, Error> {
+        from_words(&archive::decode_smccc(regs)?)
+    }
+
     /// The function ID for the call. A CPU on whose MPIDR and entry point differ in form is refused; arm-psci panics.
     pub fn function_id(&self) -> Result<FunctionId, Error> {
         let mut words = [0; 4];
@@ -80,6 +86,12 @@ impl Function {
 /// has no such function; it is `Function::try_from` and then `copy_to_array`, in one call of the archive.
 pub fn recode(regs: &[u64; 4], out: &mut [u64; 4]) -> Result<(), Error> {
     archive::recode(regs, out)
+}
+
+/// Decodes four registers by [`Function::try_from_smccc`] and encodes the call: memory protect is written by the low half of r1, every other call as
+/// by [`recode`]. Refused as `try_from` refuses; a refusal leaves `out` as it was.
+pub fn recode_smccc(regs: &[u64; 4], out: &mut [u64; 4]) -> Result<(), Error> {
+    archive::recode_smccc(regs, out)
 }
 
 /// A tag and the parts of two fields, then zeros.

@@ -20,7 +20,8 @@
 //! ```
 //!
 //! Where arm-psci panics, or merges bit 31 of a vendor's reset type, this crate gives an [`Error`]; docs/EMBEDDING.md lists what firmware has to
-//! change for that. There is no state: all cores may call at once.
+//! change for that. Beside arm-psci's reading of registers there is that of the SMC Calling Convention, [`Function::try_from_smccc`]. There is no
+//! state: all cores may call at once.
 #![no_std]
 #![deny(missing_docs)]
 #![deny(unsafe_op_in_unsafe_fn)]
@@ -39,6 +40,6 @@ pub use error::Error;
 pub use fields::{
     ArchitecturalResetType, Cookie, EntryPoint, MemProtectRange, Mpidr, PowerState, PsciFeature, ResetType, SuspendMode, SystemOff2Type,
 };
-pub use function::{recode, Function};
+pub use function::{recode, recode_smccc, Function};
 pub use function_id::FunctionId;
 pub use line::{line, BadNumber};

@@ -83,6 +83,27 @@ fn m9_memory_protect() {
     assert_eq!(written(enabled), [0x84000013, 1, 0, 0]);
 }
 
+/// Document 02, Change 2: memory protect by the low half of r1; every other call is `try_from`'s.
+#[test]
+fn memory_protect_by_the_low_half() {
+    for (r1, enabled) in [(0, false), (1, true), (0x80000000, true), (0x100000000, false), (0xffffffff00000000, false), (0x100000001, true)] {
+        let regs = [0x84000013, r1, 6, 7];
+        assert_eq!(Function::try_from_smccc(&regs), Ok(Function::MemProtect { enabled }));
+        let mut words = FILLED;
+        assert_eq!(recode_smccc(&regs, &mut words), Ok(()));
+        assert_eq!(words, [0x84000013, enabled.into(), 0, 0]);
+    }
+    let m9 = [0x84000013, 0x100000000, 0, 0];
+    let mut words = FILLED;
+    assert_eq!((recode(&m9, &mut words), words[1]), (Ok(()), 1));
+    assert_eq!((recode_smccc(&m9, &mut words), words[1]), (Ok(()), 0));
+    let migrate = [0xc4000005, 0x100000000, 0, 0];
+    assert_eq!(Function::try_from_smccc(&migrate), Function::try_from(&migrate));
+    let mut words = FILLED;
+    assert_eq!(recode_smccc(&[0x84000016, 0, 0, 0], &mut words), Err(Error::UnrecognisedFunctionId(0x84000016)));
+    assert_eq!(words, FILLED);
+}
+
 #[test]
 fn m10_m11_error_codes() {
     assert_eq!(ErrorCode::try_from(0xfffffff7u32), Ok(ErrorCode::InvalidAddress));

@@ -1,4 +1,5 @@
-//! The recorded answers of the published crate to decode, encode and function number, asked of this crate. One is planted wrong.
+//! The recorded answers of the published crate to decode, encode, function number and decode by Change 2, asked of this crate. One is planted
+//! wrong.
 use rampcomfrey as psci;
 
 #[allow(dead_code)]
@@ -10,6 +11,7 @@ use psci::{Error, Function};
 const DECODE: u64 = 0;
 const ENCODE: u64 = 1;
 const FUNCTION_ID: u64 = 2;
+const DECODE_SMCCC: u64 = 3;
 
 type Record = [u64; 16];
 
@@ -59,6 +61,7 @@ fn agrees(record: &Record) -> Option<bool> {
     };
     Some(match record[0] {
         DECODE => same(Function::try_from(&regs).map(|f| flat::call(f) == *call)),
+        DECODE_SMCCC => same(Function::try_from_smccc(&regs).map(|f| flat::call(f) == *call)),
         ENCODE => {
             let wrong = regs.map(|word| !word);
             let mut lent = wrong;
@@ -72,7 +75,7 @@ fn agrees(record: &Record) -> Option<bool> {
 
 #[test]
 fn one_planted_answer_differs() {
-    let mut compared = [0; 3];
+    let mut compared = [0; 4];
     let mut differed = 0;
     for record in records() {
         if let Some(same) = agrees(&record) {
@@ -80,7 +83,7 @@ fn one_planted_answer_differs() {
             differed += !same as u64;
         }
     }
-    println!("decode, encode, function number: {compared:?} compared, {differed} differed");
+    println!("decode, encode, function number, decode by Change 2: {compared:?} compared, {differed} differed");
     assert!(compared.iter().all(|count| *count > 1000), "{compared:?}");
     assert_eq!(differed, 1);
 }

@@ -154,6 +154,7 @@ pub fn answer(q: &Record) -> Record {
     let mut a = Record { refusal: 0, carried: 0, ..*q };
     let refused = match q.op {
         op::DECODE => Function::try_from(&q.regs).map(|f| a.call = call(f)).map_err(refusal),
+        op::DECODE_SMCCC => departures::decode_smccc(&q.regs).map(|f| a.call = call(f)).map_err(refusal),
         op::ENCODE => asked(&q.call).and_then(|f| departures::copy_to_array(f, &mut a.regs)),
         op::FUNCTION_ID => asked(&q.call).and_then(departures::function_id).map(|id| a.regs[0] = u32::from(id).into()),
         op::READ_FUNCTION_ID..=op::FROM_AFF210 => read(q.op, q.regs).map(|words| a.call = words).map_err(refusal),

@@ -8,10 +8,14 @@ pub mod answers;
 pub mod flat;
 
 /// What firmware has to change: four methods and conversions give an error where arm-psci panics, and two, `copy_to_array` among them, where it
-/// merges bit 31 of a vendor type; `Error` has a case for each panic, and one for that.
+/// merges bit 31 of a vendor type; `Error` has a case for each panic, and one for that. And what arm-psci lacks: Change 2's decoder.
 pub mod departures {
     use super::answers::{self, No};
     use rampcomfrey::*;
+
+    pub fn decode_smccc(regs: &[u64; 4]) -> Result<Function, Error> {
+        Function::try_from_smccc(regs)
+    }
 
     pub fn refusal(error: Error) -> No {
         match error {

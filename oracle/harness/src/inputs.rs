@@ -330,7 +330,7 @@ pub fn words_random(seed: u64, count: u64, ask: &mut dyn FnMut(Record)) {
 /// Records that ask for nothing: operations and tags that there aren't, and each word of a value's turned in one bit. An operation's first
 /// byte is not from 0x20 to 0x7e, which makes a label of the record; its neighbours do not.
 pub fn malformed(ask: &mut dyn FnMut(Record)) {
-    let none = [3, 15, 34, 47, 66, 1 << 32, 0x1fff_ffff_ffff_ffff, 0x7f00_0000_0000_0000, u64::MAX];
+    let none = [4, 15, 34, 47, 66, 1 << 32, 0x1fff_ffff_ffff_ffff, 0x7f00_0000_0000_0000, u64::MAX];
     for op in none {
         ask(Record { op, call: odd(op), regs: [op; 4], ..Record::default() });
     }
@@ -356,16 +356,23 @@ pub fn malformed(ask: &mut dyn FnMut(Record)) {
     }
 }
 
+/// A question of decode, asked of Change 2's decoder.
+pub fn smccc(q: Record) -> Record {
+    Record { op: op::DECODE_SMCCC, ..q }
+}
+
 /// The plans by name; the random ones take a seed and a count.
 pub fn plan(name: &str, seed: u64, count: u64, ask: &mut dyn FnMut(Record)) {
     match name {
         "decode-bounds" => decode_bounds(ask),
         "encode-bounds" => encode_bounds(ask),
         "words-bounds" => words_bounds(ask),
+        "smccc-bounds" => decode_bounds(&mut |q| ask(smccc(q))),
         "malformed" => malformed(ask),
         "decode" => decode_random(seed, count, ask),
         "encode" => encode_random(seed, count, ask),
         "words" => words_random(seed, count, ask),
+        "smccc" => decode_random(seed, count, &mut |q| ask(smccc(q))),
         _ => panic!("no plan {name}"),
     }
 }

@@ -15,7 +15,7 @@ pub mod sweep;
 pub mod tally;
 
 pub use published::answers::{answer as oracle, refusal};
-pub use published::departures::quiet_panics;
+pub use published::departures::{MEM_PROTECT, low_half_for_protect, quiet_panics};
 pub use published::flat;
 
 use flat::Flat;
@@ -52,11 +52,12 @@ impl Record {
     }
 }
 
-/// The operations. Decode and the readers take registers and give nine words; the others take nine words and write registers.
+/// The operations. The decoders and the readers take registers and give nine words; the others take nine words and write registers.
 pub mod op {
     pub const DECODE: u64 = 0;
     pub const ENCODE: u64 = 1;
     pub const FUNCTION_ID: u64 = 2;
+    pub const DECODE_SMCCC: u64 = 3; // Change 2: memory protect has the low half of r1
     pub const READ_FUNCTION_ID: u64 = 16;
     pub const READ_RETURN_CODE: u64 = 17; // i32, as every 32-bit reader the low half of r0
     pub const READ_ERROR_CODE: u64 = 18; // i32

@@ -7,7 +7,8 @@ pub mod answers;
 pub mod flat;
 
 /// Where the Rust panics, document 01 refuses: 14 carries nothing, 15 the state ID, 16 the major. Before a panic the Rust has cleared the four
-/// words; a refusal leaves them. Where the Rust merges bit 31 of a vendor type, document 02 (Change 5) refuses: 31 carries the type.
+/// words; a refusal leaves them. Where the Rust merges bit 31 of a vendor type, document 02 (Change 5) refuses: 31 carries the type. Change 2's
+/// decoder, which the Rust lacks, is the Rust's of the set with r1's upper half cleared for memory protect.
 pub mod departures {
     use super::answers::No;
     use arm_psci::*;
@@ -41,6 +42,18 @@ pub mod departures {
             0 => panic!("a panic of the Rust that document 01 does not name"),
             n => n,
         })
+    }
+
+    /// The function number of memory protect.
+    pub const MEM_PROTECT: u32 = 0x8400_0013;
+
+    /// The set with r1's upper half cleared, if its function number is memory protect's; any other as it is.
+    pub fn low_half_for_protect(&[r0, r1, r2, r3]: &[u64; 4]) -> [u64; 4] {
+        [r0, if r0 as u32 == MEM_PROTECT { r1 & 0xffff_ffff } else { r1 }, r2, r3]
+    }
+
+    pub fn decode_smccc(regs: &[u64; 4]) -> Result<Function, Error> {
+        Function::try_from(&low_half_for_protect(regs))
     }
 
     pub fn refusal(error: Error) -> No {

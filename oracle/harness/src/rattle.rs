@@ -13,8 +13,10 @@ pub struct Refusal {
 unsafe extern "C" {
     // `&[T; n]` and `&mut [T; n]` are thin pointers.
     pub safe fn psci_decode(regs: &[u64; 4], out: &mut [u64; 9]) -> Refusal;
+    pub safe fn psci_decode_smccc(regs: &[u64; 4], out: &mut [u64; 9]) -> Refusal;
     pub safe fn psci_encode(call: &[u64; 9], out: &mut [u64; 4]) -> Refusal;
     pub safe fn psci_recode(regs: &[u64; 4], out: &mut [u64; 4]) -> Refusal;
+    pub safe fn psci_recode_smccc(regs: &[u64; 4], out: &mut [u64; 4]) -> Refusal;
     pub safe fn psci_line(number: usize, regs: &[u64; 4], out: &mut [u8; 80]) -> Written;
     pub safe fn bench_mpidr_halves(register: &[u64; 1], out: &mut [u64; 4]) -> Refusal;
     pub safe fn bench_mpidr_whole(register: &[u64; 1], out: &mut [u64; 4]) -> Refusal;

@@ -1,4 +1,4 @@
-//! Sweeps: a block of 128 bytes that asks one reader many words, and has a digest of the Rust's answers to them. `replay` asks the words
+//! Sweeps: a block of 128 bytes that asks one reader or decoder many words, and has a digest of the Rust's answers to them. `replay` asks the words
 //! anew, so that 2^32 of them cost neither side more than asking and folding.
 use crate::inputs::Rng;
 use crate::{Record, op, oracle};
@@ -91,8 +91,13 @@ impl Group {
         for (bit, mask) in self.turned.iter().enumerate() {
             word ^= mask * (number >> bit & 1);
         }
-        // decode takes fields from the other registers, and 1 is legal for most; a reader must leave them as they are
-        let rest = if op == op::DECODE { [1; 3] } else { [draw.word(), draw.word(), draw.word()] };
+        // a decoder takes fields from the other registers, and these are legal for most; Change 2's gets an r1 that tells whether its low half is
+        // taken for memory protect and in no 64-bit call; a reader must leave them as they are
+        let rest = match op {
+            op::DECODE => [1; 3],
+            op::DECODE_SMCCC => [1 << 32, 1, 1],
+            _ => [draw.word(), draw.word(), draw.word()],
+        };
         Block { op, shift: self.shift, count, regs: [word, rest[0], rest[1], rest[2]] }
     }
 
@@ -106,7 +111,7 @@ impl Group {
     }
 }
 
-/// The groups of an operation, 2^32 words in all. A reader of 32 bits, and decode, gets each word of 32 bits, under high halves that it
+/// The groups of an operation, 2^32 words in all. A reader of 32 bits, and a decoder, gets each word of 32 bits, under high halves that it
 /// must ignore. The three readers of 64 bits get a choice of words in which every bit varies:
 ///
 /// 20, error codes: half of the words that fit 32 bits, of both signs; then small numbers in the low half, under every choice of bit 31 and
@@ -167,7 +172,7 @@ impl Block {
 
 /// The blocks of an operation; `bits` below 32 thins them to 2^bits words.
 pub fn blocks(op: u64, bits: u32) -> Vec<Block> {
-    assert!(op == op::DECODE || (op::READ_FUNCTION_ID..=op::READ_SUSPEND_MODE).contains(&op), "no reader {op}");
+    assert!([op::DECODE, op::DECODE_SMCCC].contains(&op) || (op::READ_FUNCTION_ID..=op::READ_SUSPEND_MODE).contains(&op), "no reader or decoder {op}");
     assert!((2..=32).contains(&bits), "2 to 32 bits");
     groups(op).iter().flat_map(|g| g.blocks(op, bits)).collect()
 }

@@ -7,7 +7,7 @@ use arm_psci::{Function, Mpidr};
 use harness::inputs::{AFFINITIES, Rng};
 use harness::line::{self, Written};
 use harness::rattle::{self, Refusal};
-use harness::{flat, inputs, refusal};
+use harness::{flat, inputs, low_half_for_protect, refusal};
 use std::hint::black_box;
 use std::time::Instant;
 
@@ -18,8 +18,8 @@ fn refused(e: arm_psci::Error) -> Refusal {
     Refusal { number, carried }
 }
 
-#[inline(never)]
-extern "C" fn rust_decode(regs: &[u64; 4], out: &mut [u64; 9]) -> Refusal {
+#[inline(always)]
+fn decoded(regs: &[u64; 4], out: &mut [u64; 9]) -> Refusal {
     match Function::try_from(regs) {
         Ok(f) => {
             *out = flat::call(f);
@@ -27,6 +27,16 @@ extern "C" fn rust_decode(regs: &[u64; 4], out: &mut [u64; 9]) -> Refusal {
         }
         Err(e) => refused(e),
     }
+}
+
+#[inline(never)]
+extern "C" fn rust_decode(regs: &[u64; 4], out: &mut [u64; 9]) -> Refusal {
+    decoded(regs, out)
+}
+
+#[inline(never)]
+extern "C" fn rust_decode_smccc(regs: &[u64; 4], out: &mut [u64; 9]) -> Refusal {
+    decoded(&low_half_for_protect(regs), out)
 }
 
 #[inline(never)]
@@ -42,8 +52,8 @@ extern "C" fn rust_encode(call: &[u64; 9], out: &mut [u64; 4]) -> Refusal {
     ACCEPTED
 }
 
-#[inline(never)]
-extern "C" fn rust_recode(regs: &[u64; 4], out: &mut [u64; 4]) -> Refusal {
+#[inline(always)]
+fn recoded(regs: &[u64; 4], out: &mut [u64; 4]) -> Refusal {
     match Function::try_from(regs) {
         Ok(f) => {
             f.copy_to_array(out);
@@ -51,6 +61,16 @@ extern "C" fn rust_recode(regs: &[u64; 4], out: &mut [u64; 4]) -> Refusal {
         }
         Err(e) => refused(e),
     }
+}
+
+#[inline(never)]
+extern "C" fn rust_recode(regs: &[u64; 4], out: &mut [u64; 4]) -> Refusal {
+    recoded(regs, out)
+}
+
+#[inline(never)]
+extern "C" fn rust_recode_smccc(regs: &[u64; 4], out: &mut [u64; 4]) -> Refusal {
+    recoded(&low_half_for_protect(regs), out)
 }
 
 #[inline(never)]
@@ -249,7 +269,9 @@ fn main() {
     let legal: Vec<[u64; 4]> = mixed.iter().copied().filter(|r| Function::try_from(r).is_ok()).collect();
     let calls: Vec<[u64; 9]> = legal.iter().map(|r| flat::call(Function::try_from(r).unwrap())).collect();
     let recode = |name, list: &[[u64; 4]]| words(name, list, rust_recode, rattle::psci_recode);
+    let recode_smccc = |name, list: &[[u64; 4]]| words(name, list, rust_recode_smccc, rattle::psci_recode_smccc);
     let decode = |name, list: &[[u64; 4]]| words(name, list, rust_decode, rattle::psci_decode);
+    let decode_smccc = |name, list: &[[u64; 4]]| words(name, list, rust_decode_smccc, rattle::psci_decode_smccc);
     let only = |regs: [u64; 4]| vec![regs; 1 << 14];
     let codec = vec![
         recode("decode_then_encode:_mixed", &mixed),
@@ -257,8 +279,17 @@ fn main() {
         recode("decode_then_encode:_64-bit_CPU_on", &only([0xc400_0003, 0x1_0002_0304, 0x8_0000, 9])),
         recode("decode_then_encode:_32-bit_CPU_suspend", &only([0x8400_0001, 0x4000_0007, 0x8_0000, 9])),
         recode("decode_then_encode:_CPU_off", &only([0x8400_0002, 0, 0, 0])),
+        recode("decode_then_encode:_memory_protect", &only([0x8400_0013, 1 << 32, 0, 0])),
+        recode_smccc("decode_then_encode_by_Change_2:_mixed", &mixed),
+        recode_smccc("decode_then_encode_by_Change_2:_legal", &legal),
+        recode_smccc("decode_then_encode_by_Change_2:_64-bit_CPU_on", &only([0xc400_0003, 0x1_0002_0304, 0x8_0000, 9])),
+        recode_smccc("decode_then_encode_by_Change_2:_32-bit_CPU_suspend", &only([0x8400_0001, 0x4000_0007, 0x8_0000, 9])),
+        recode_smccc("decode_then_encode_by_Change_2:_CPU_off", &only([0x8400_0002, 0, 0, 0])),
+        recode_smccc("decode_then_encode_by_Change_2:_memory_protect", &only([0x8400_0013, 1 << 32, 0, 0])),
         decode("decode:_mixed", &mixed),
         decode("decode:_legal", &legal),
+        decode_smccc("decode_by_Change_2:_mixed", &mixed),
+        decode_smccc("decode_by_Change_2:_legal", &legal),
         words("encode:_legal", &calls, rust_encode, rattle::psci_encode),
         lines("line:_mixed", &mixed),
         lines("line:_legal", &legal),

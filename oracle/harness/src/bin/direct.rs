@@ -1,5 +1,5 @@
 //! `direct SEED COUNT`: the boundary questions and COUNT random ones to decode, encode, one after the other, and a record's line, each called
-//! through C with lent words. The first difference is printed, with status 1.
+//! through C with lent words; what decodes, by both decoders. The first difference is printed, with status 1.
 use harness::rattle::{self, Refusal};
 use harness::{Record, inputs, line, op, oracle, quiet_panics};
 
@@ -10,28 +10,41 @@ fn expect<T: PartialEq + std::fmt::Debug>(what: &str, q: &Record, want: T, got: 
     }
 }
 
-/// A refusal must leave the lent words as they were.
+type Decode = extern "C" fn(&[u64; 4], &mut [u64; 9]) -> Refusal;
+type Recode = extern "C" fn(&[u64; 4], &mut [u64; 4]) -> Refusal;
+
+/// What a decoder gives, and its recode. A refusal must leave the lent words as they were.
+fn compare_decoding(q: &Record, refusal: Refusal, want: &Record, decode: Decode, recode: Recode) {
+    let mut call = q.call;
+    let got = decode(&q.regs, &mut call);
+    expect("decode", q, (refusal, want.call), (got, call));
+    let again = oracle(&Record { op: op::ENCODE, call: want.call, ..*q });
+    let (mut out, words) = ([!0; 4], if want.refusal == 0 { again.regs } else { [!0; 4] });
+    let got = recode(&q.regs, &mut out);
+    expect("decode then encode", q, (refusal, words), (got, out));
+    if want.refusal == 0 {
+        // nine words that decode gave are a call
+        let mut out = [!0; 4];
+        let got = rattle::psci_encode(&call, &mut out);
+        expect("encode of what decode gave", q, (refusal, words), (got, out));
+    }
+}
+
+fn compare_line(q: &Record) {
+    let (mut text, number) = ([0xaa; 80], q.regs[1] as usize % (line::MAX_NUMBER + 10));
+    let got = rattle::psci_line(number, &q.regs, &mut text);
+    expect("line", q, line::judged(number, &q.regs, [0xaa; 80]), (got, text));
+}
+
+/// Whether the question is one of these functions'; a difference stops the program.
 fn compare(q: &Record) -> bool {
     let want = oracle(q);
     let refusal = Refusal { number: want.refusal, carried: want.carried };
     match q.op {
-        op::DECODE => {
-            let mut call = q.call;
-            let got = rattle::psci_decode(&q.regs, &mut call);
-            expect("decode", q, (refusal, want.call), (got, call));
-            let again = oracle(&Record { op: op::ENCODE, call: want.call, ..*q });
-            let (mut out, words) = ([!0; 4], if want.refusal == 0 { again.regs } else { [!0; 4] });
-            let got = rattle::psci_recode(&q.regs, &mut out);
-            expect("decode then encode", q, (refusal, words), (got, out));
-            if want.refusal == 0 {
-                // nine words that decode gave are a call
-                let mut out = [!0; 4];
-                let got = rattle::psci_encode(&call, &mut out);
-                expect("encode of what decode gave", q, (refusal, words), (got, out));
-            }
-            let (mut text, number) = ([0xaa; 80], q.regs[1] as usize % (line::MAX_NUMBER + 10));
-            let got = rattle::psci_line(number, &q.regs, &mut text);
-            expect("line", q, line::judged(number, &q.regs, [0xaa; 80]), (got, text));
+        op::DECODE => compare_decoding(q, refusal, &want, rattle::psci_decode, rattle::psci_recode),
+        op::DECODE_SMCCC => {
+            compare_decoding(q, refusal, &want, rattle::psci_decode_smccc, rattle::psci_recode_smccc);
+            compare_line(q);
         }
         op::ENCODE => {
             let mut out = q.regs;
@@ -47,7 +60,7 @@ fn main() {
     quiet_panics();
     let mut args = std::env::args().skip(1).map(|a| a.parse().expect("a number"));
     let (seed, count): (u64, u64) = (args.next().expect("SEED"), args.next().expect("COUNT"));
-    for name in ["decode-bounds", "encode-bounds", "malformed", "decode", "encode"] {
+    for name in ["decode-bounds", "smccc-bounds", "encode-bounds", "malformed", "decode", "smccc", "encode"] {
         let mut asked = 0u64;
         inputs::plan(name, seed, count, &mut |q| asked += compare(&q) as u64);
         println!("{name:15} {asked:>11} equal");

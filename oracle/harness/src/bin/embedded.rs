@@ -1,9 +1,9 @@
 //! `embedded SEED COUNT`: the questions of all plans, COUNT of each random kind, to the published crate and to that of embed/rust. Their answers
-//! must be equal; of decode's questions also what embed/rust has beside arm-psci: registers by value, recode and line. The first difference is
-//! printed, with status 1.
+//! must be equal; of the questions of both decoders also what embed/rust has beside arm-psci: registers by value, recode and line. The first
+//! difference is printed, with status 1.
 use harness::embedded::answers::{answer, refusal};
 use harness::{Record, inputs, line, op, oracle, quiet_panics};
-use rampcomfrey::{BadNumber, Function};
+use rampcomfrey::{BadNumber, Error, Function};
 
 fn expect<T: PartialEq + std::fmt::Debug>(what: &str, q: &Record, want: T, got: T) {
     if want != got {
@@ -12,19 +12,21 @@ fn expect<T: PartialEq + std::fmt::Debug>(what: &str, q: &Record, want: T, got: 
     }
 }
 
-/// A refusal must leave the lent words as they were.
-fn beside(q: &Record, decoded: &Record) {
-    expect("registers by value", q, Function::try_from(&q.regs), Function::try_from(q.regs));
+type Recode = fn(&[u64; 4], &mut [u64; 4]) -> Result<(), Error>;
 
+/// A refusal must leave the lent words as they were.
+fn compare_recode(q: &Record, decoded: &Record, recode: Recode) {
     let mut out = [!0; 4];
     let again = oracle(&Record { op: op::ENCODE, call: decoded.call, ..*q });
     let (no, words) = match decoded.refusal {
         0 => ((0, 0), again.regs),
         number => ((number, decoded.carried), [!0; 4]),
     };
-    let told = rampcomfrey::recode(&q.regs, &mut out).map_or_else(refusal, |()| (0, 0));
+    let told = recode(&q.regs, &mut out).map_or_else(refusal, |()| (0, 0));
     expect("recode", q, (no, words), (told, out));
+}
 
+fn compare_line(q: &Record) {
     let (mut text, number) = ([0xaa; 80], q.regs[1] as usize % (line::MAX_NUMBER + 10));
     let (written, bytes) = line::judged(number, &q.regs, text);
     let size = if written.number == 0 { Ok(written.value as usize) } else { Err(BadNumber(written.value)) };
@@ -35,8 +37,16 @@ fn beside(q: &Record, decoded: &Record) {
 fn compare(q: &Record) {
     let want = oracle(q);
     expect("answer", q, want, answer(q));
-    if q.op == op::DECODE {
-        beside(q, &want);
+    match q.op {
+        op::DECODE => {
+            expect("registers by value", q, Function::try_from(&q.regs), Function::try_from(q.regs));
+            compare_recode(q, &want, rampcomfrey::recode);
+        }
+        op::DECODE_SMCCC => {
+            compare_recode(q, &want, rampcomfrey::recode_smccc);
+            compare_line(q);
+        }
+        _ => {}
     }
 }
 
@@ -44,7 +54,7 @@ fn main() {
     quiet_panics();
     let mut args = std::env::args().skip(1).map(|a| a.parse().expect("a number"));
     let (seed, count): (u64, u64) = (args.next().expect("SEED"), args.next().expect("COUNT"));
-    for name in ["decode-bounds", "encode-bounds", "words-bounds", "malformed", "decode", "encode", "words"] {
+    for name in ["decode-bounds", "smccc-bounds", "encode-bounds", "words-bounds", "malformed", "decode", "smccc", "encode", "words"] {
         let mut asked = 0u64;
         inputs::plan(name, seed, count, &mut |q| {
             compare(&q);

@@ -1,6 +1,6 @@
 //! `stream PLAN [SEED COUNT] | replay`: the Rust's answers to a plan's questions, as records of 128 bytes on standard output.
-//! `stream sweep numbers|READER [BITS] | replay`: 2^BITS words, by default 2^32, to decode as function numbers or to the reader with that
-//! operation, as blocks with a digest. The number of records or blocks and the tally of refusals go to standard error.
+//! `stream sweep numbers|OPERATION [BITS] | replay`: 2^BITS words, by default 2^32, to decode as function numbers, or to the reader or decoder
+//! with that operation, as blocks with a digest. The number of records or blocks and the tally of refusals go to standard error.
 use harness::tally::Tally;
 use harness::{inputs, op, oracle, quiet_panics, sweep};
 use std::io::Write;
@@ -17,7 +17,7 @@ fn plan(name: &str, seed: u64, count: u64, tally: &mut Tally, out: &mut impl Wri
 }
 
 fn swept(what: &str, bits: u32, tally: &mut Tally, out: &mut impl Write) -> String {
-    let op = if what == "numbers" { op::DECODE } else { what.parse().expect("numbers or a reader") };
+    let op = if what == "numbers" { op::DECODE } else { what.parse().expect("numbers or an operation") };
     let blocks = sweep::blocks(op, bits);
     for block in &blocks {
         out.write_all(&block.answered(&mut |a| tally.note(a)).bytes()).unwrap();

@@ -1,5 +1,5 @@
-//! `vectors SEED COUNT > FILE`: the recorded list. COUNT records, a third each of decode, of encode and function number, and of
-//! words; half of each third from the boundary plan, thinned evenly, half random; then two of each refusal if fewer came. One
+//! `vectors SEED COUNT > FILE`: the recorded list. COUNT records, a quarter each of decode, of Change 2's decoder, of encode and function number,
+//! and of words; half of each quarter from the boundary plan, thinned evenly, half random; then two of each refusal if fewer came. One
 //! more record, in the middle, is planted wrong: a program that says of the list that no record differs has not compared it.
 use harness::tally::Tally;
 use harness::{Record, inputs, op, oracle, quiet_panics};
@@ -34,9 +34,9 @@ fn main() {
     let mut args = std::env::args().skip(1).map(|a| a.parse().expect("a number"));
     let (seed, count): (u64, u64) = (args.next().expect("SEED"), args.next().expect("COUNT"));
     quiet_panics();
-    let part = count / 6;
+    let part = count / 8;
     let mut list = Vec::new();
-    for name in ["decode", "encode", "words"] {
+    for name in ["decode", "smccc", "encode", "words"] {
         list.extend(thinned(part, &format!("{name}-bounds")));
         inputs::plan(name, seed, part, &mut |q| list.push(q));
     }
