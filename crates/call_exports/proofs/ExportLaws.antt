@@ -6,6 +6,8 @@ use lib.IntN.{ℤ, pos}
 use lib.ListN.{length}
 use Rattle.refusals.specs.Answers.{Answer, accepted, refused, through, andThen}
 use Rattle.refusals.specs.Lent.{left}
+use Rattle.refusals.specs.Told.{refusalIs, refusalIn}
+use Rattle.refusals.specs.declared.told.Refusal.{Refusal}
 use Rattle.refusals.proofs.Lending.{fronted-all}
 use Rattle.function.specs.declared.Function.{Function}
 use Rattle.encode_definition.specs.Encode.{encodeOf}
@@ -13,8 +15,7 @@ use Rattle.encode.specs.Answers.{encodeAnswer}
 use Rattle.encode.specs.declared.EncodeResult.{EncodeResult}
 use Rattle.call_exports.specs.CallWords.{callWords}
 use Rattle.call_exports.specs.CallAsked.{callAsked}
-use Rattle.call_exports.specs.Exports.{refusalIs, refusalIn, encodeWords}
-use Rattle.call_exports.specs.declared.Refusal.{Refusal}
+use Rattle.call_exports.specs.Exports.{encodeWords}
 
 -- the words of a call are nine
 nine-words : (f : Function) → length (callWords f) ≡ 9

@@ -3,16 +3,15 @@
 ghost use mathlib.Core.List.{List};
 ghost use mathlib.Core.Path.{_≡_};
 ghost use Prim.Native.Nat.{ℕ};
-ghost use lib.IntN.{pos};
 ghost use lib.ListN.{length};
 ghost use Rattle.refusals.specs.Answers.{through};
-ghost use Rattle.refusals.specs.Errors.{refusalNumber, refusalValue};
 ghost use Rattle.refusals.specs.Lent.{left};
+ghost use Rattle.refusals.specs.Told.{refusalIn};
 ghost use Rattle.decode_definition.specs.Decode.{decodeOf, decodeSmccc};
 ghost use Rattle.encode.specs.Answers.{encodeAnswer};
 ghost use Rattle.roundtrip.specs.Recode.{recodeOf, recodeSmccc};
 ghost use Rattle.call_exports.specs.CallWords.{callWords};
-ghost use Rattle.call_exports.specs.Exports.{refusalIs, refusalIn, encodeWords};
+ghost use Rattle.call_exports.specs.Exports.{encodeWords};
 
 pub mod call_asked;
 pub mod call_words;
@@ -27,34 +26,9 @@ use crate::call_words::call_words;
 use decode::registers::low_half_for_protect;
 use encode::EncodeResult;
 use function::FunctionResult;
-use refusals::Error;
-
-// A refusal's number and what it carries, or twice 0.
-#[repr(C)]
-pub struct Refusal {
-    pub number: u64,
-    pub carried: u64,
-}
-
-// Nothing was refused.
-fn accepted_words() -> Refusal
-    ensures { λ r. ⌜ r ≡ refusalIs 0 (pos 0) ⌝ }
-{
-    Refusal {
-        number: 0,
-        carried: 0,
-    }
-}
-
-// A refusal as it is told.
-fn refusal_of(error: Error) -> Refusal
-    ensures { λ r. ⌜ r ≡ refusalIs (refusalNumber error) (refusalValue error) ⌝ }
-{
-    Refusal {
-        number: error.number(),
-        carried: error.value(),
-    }
-}
+use refusals::told::Refusal;
+use refusals::told::accepted_words;
+use refusals::told::refusal_of;
 
 // The nine words into the lent run, as a slice: the checker tells the length of a slice, and not that of `&mut [u64; 9]`.
 fn store(words: [u64; 9], out: &mut [u64])

@@ -1,24 +1,26 @@
 -- What is told of a reader's answer, and what is left in the lent words. Assumes nothing.
-use mathlib.Core.Path.{_≡_, refl, sym, ap, _∙_}
+use mathlib.Core.Path.{_≡_, sym, ap, _∙_}
 use mathlib.Core.List.{List}
 use Prim.Native.Nat.{ℕ}
 use lib.IntN.{ℤ, pos}
 use lib.ListN.{length}
 use Rattle.refusals.specs.Answers.{Answer, accepted, refused, through}
 use Rattle.refusals.specs.Lent.{left}
+use Rattle.refusals.specs.Told.{refusalIs, refusalIn}
+use Rattle.refusals.specs.declared.told.Refusal.{Refusal}
 use Rattle.refusals.proofs.Lending.{fronted-all}
 use Rattle.words.specs.declared.mpidrs.Mpidr.{Mpidr}
-use Rattle.mpidr_bench.specs.Exports.{affinityWords, refusalIs, refusalIn}
-use Rattle.mpidr_bench.specs.declared.Refusal.{Refusal}
+use Rattle.mpidr_bench.specs.Exports.{affinityWords}
 
 -- an answer told in plain words, with what stands in the lent run before and after
 abbrev pub Told : Answer Mpidr → List ℕ → Refusal → List ℕ → Type 0
 Told answer run r last = (r ≡ refusalIn answer) × (last ≡ left (through affinityWords answer) run)
 
 module _ {answer : Answer Mpidr} (run : List ℕ) where
-  pub told-core : {m : Mpidr} {last : List ℕ} → length run ≡ 4 → answer ≡ accepted m → last ≡ affinityWords m → Told answer run (refusalIs 0 (pos 0)) last
-  told-core {m} four e words = (
-    ap (λ (a : Answer Mpidr). refusalIn a) (sym e),
+  pub told-core : {m : Mpidr} {r : Refusal} {last : List ℕ} → length run ≡ 4 → answer ≡ accepted m → r ≡ refusalIs 0 (pos 0) → last ≡ affinityWords m →
+      Told answer run r last
+  told-core {m} four e told words = (
+    told ∙ ap (λ (a : Answer Mpidr). refusalIn a) (sym e),
     words ∙ sym (fronted-all (affinityWords m) run (sym four)) ∙ ap (λ (a : Answer Mpidr). left (through affinityWords a) run) (sym e),
   )
 

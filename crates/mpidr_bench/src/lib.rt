@@ -3,21 +3,17 @@
 ghost use mathlib.Core.Path.{_≡_};
 ghost use lib.ListN.{length, getD};
 ghost use Rattle.refusals.specs.Answers.{through};
-ghost use Rattle.refusals.specs.Errors.{refusalNumber, refusalValue};
 ghost use Rattle.refusals.specs.Lent.{left};
+ghost use Rattle.refusals.specs.Told.{refusalIn};
 ghost use Rattle.words.specs.Mpidrs.{readMpidr64, mpidrAnswer, aff3Number};
-ghost use Rattle.mpidr_bench.specs.Exports.{refusalIs, refusalIn, affinityWords};
+ghost use Rattle.mpidr_bench.specs.Exports.{affinityWords};
 use refusals::Error;
+use refusals::told::Refusal;
+use refusals::told::accepted_words;
+use refusals::told::refusal_of;
 use words::Aff3;
 use words::Mpidr;
 use words::MpidrResult;
-
-// A refusal's number and what it carries, or twice 0.
-#[repr(C)]
-pub struct Refusal {
-    pub number: u64,
-    pub carried: u64,
-}
 
 // The MPIDR of a 64-bit word, with affinity 3, from the whole register: the answers of `Mpidr::try_from_u64`. A word with a bit of 24–31 or
 // 40–63 is refused with 4, and carried.
@@ -71,16 +67,6 @@ fn store(words: [u64; 4], out: &mut [u64])
     out[3] = words[3];
 }
 
-// A refusal as it is told.
-fn refusal_of(error: Error) -> Refusal
-    ensures { λ r. ⌜ r ≡ refusalIs (refusalNumber error) (refusalValue error) ⌝ }
-{
-    Refusal {
-        number: error.number(),
-        carried: error.value(),
-    }
-}
-
 // A reader's answer as C takes it: affinities 0 to 3 in the lent words; or a refusal, which leaves them as they were.
 fn told(answer: MpidrResult, out: &mut [u64; 4]) -> Refusal
     ensures { λ r. ⌜ (r ≡ refusalIn (mpidrAnswer answer)) × (now (out .exit) ≡ left (through affinityWords (mpidrAnswer answer)) (now (out .entry))) ⌝ }
@@ -88,10 +74,7 @@ fn told(answer: MpidrResult, out: &mut [u64; 4]) -> Refusal
     match answer {
         MpidrResult::Ok(mpidr) => {
             store(affinity_words(mpidr), out);
-            Refusal {
-                number: 0,
-                carried: 0,
-            }
+            accepted_words()
         }
         MpidrResult::Err(error) => refusal_of(error),
     }

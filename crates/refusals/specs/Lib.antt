@@ -3,3 +3,4 @@ pub mod Errors
 pub mod Inverses
 pub mod Lent
 pub mod LentLaws
+pub mod Told

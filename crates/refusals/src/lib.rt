@@ -3,6 +3,9 @@
 ghost use mathlib.Core.Path.{_≡_};
 ghost use Rattle.bits.specs.Signs.{wordOf};
 ghost use Rattle.refusals.specs.Errors.{refusalNumber, refusalValue};
+
+pub mod told;
+
 use bits::signs;
 
 // What the codec turns back, with the value that it carries.

@@ -2,9 +2,9 @@
 -- Assumes nothing.
 use mathlib.Core.Path.{sym, ap, _∙_}
 use borrow.Author.Needs.{needs}
+use Rattle.refusals.specs.Told.{refusalIn}
 use Rattle.encode.specs.Answers.{encodeAnswer}
 use Rattle.encode.specs.declared.EncodeResult.{EncodeResult}
-use Rattle.call_exports.specs.Exports.{refusalIn}
 use Rattle.call_exports.proofs.told_words.Statement.{statement}
 use Rattle.call_exports.proofs.told_words.Tie as tie
 

@@ -8,8 +8,9 @@ use Rattle.mpidr_bench.proofs.told.Tie as tie
 
 returns : tie.Need-returns
 returns c =
-    told-core (c .before .before .before .before .before .before .args .out .now) (search needs)
-    (ap mpidrAnswer (c .before .before .before .before .answer .given .1)) (c .store .ensures ∙ c .before .before .affinity-words .ensures)
+    told-core (c .before .before .before .before .before .before .before .args .out .now) (search needs)
+    (ap mpidrAnswer (c .before .before .before .before .before .answer .given .1)) (c .accepted-words .ensures)
+    (c .before .store .ensures ∙ c .before .before .before .affinity-words .ensures)
 
 returns-2 : tie.Need-returns-2
 returns-2 c =
@@ -18,4 +19,12 @@ returns-2 c =
 pub told-spec : {M : Type 1} → statement M
 told-spec =
     tie.close
-    (tie.spec (λ c. search needs) (λ c κs. search needs) (λ c κs. search needs) (λ c. search needs) (λ c κs. search needs) returns returns-2)
+    (tie.spec
+    (λ c. search needs)
+    (λ c κs. search needs)
+    (λ c κs. search needs)
+    (λ c κs. search needs)
+    (λ c. search needs)
+    (λ c κs. search needs)
+    returns
+    returns-2)

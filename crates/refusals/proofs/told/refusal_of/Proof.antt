@@ -1,8 +1,8 @@
--- `call_exports::refusal_of` meets its contract.
+-- `refusals::told::refusal_of` meets its contract.
 -- Assumes nothing.
 use borrow.Author.Needs.{needs}
-use Rattle.call_exports.proofs.refusal_of.Statement.{statement}
-use Rattle.call_exports.proofs.refusal_of.Tie as tie
+use Rattle.refusals.proofs.told.refusal_of.Statement.{statement}
+use Rattle.refusals.proofs.told.refusal_of.Tie as tie
 
 pub refusal-of-spec : {M : Type 1} → statement M
 refusal-of-spec =
