@@ -1,9 +1,10 @@
--- Document 01, "What is turned back, by operation": the number of each refusal, and the value that it carries. 31 is document 02's, Change 5.
+-- Document 01, "What is turned back, by operation": the number of each refusal, and the value that it carries. 26 and 27 are
+-- document 02's Change 1, 31 is its Change 5.
 use Prim.Native.Nat.{ℕ}
 use lib.IntN.{ℤ, pos}
 use Rattle.refusals.specs.Answers.{Answer, accepted, refused}
 use Rattle.refusals.specs.declared.Error.{Error}
-use Rattle.refusals.specs.declared.Error.the-variants.{UnrecognisedFunctionId, InvalidPowerState, InvalidMpidr32, InvalidMpidr64, InvalidLowerAffinityLevel, UnrecognisedSystemOff2Type, UnrecognisedSystemReset2Type, UnrecognisedSuspendMode, UnrecognisedErrorCode, OverflowingErrorCode, InvalidVersion, UnrecognisedHwState, IgnoredNonZeroAff3, MixedCallForms, InvalidStateId, InvalidMajorVersion, WrongLength, InvalidVendorType}
+use Rattle.refusals.specs.declared.Error.the-variants.{UnrecognisedFunctionId, InvalidPowerState, InvalidMpidr32, InvalidMpidr64, InvalidLowerAffinityLevel, UnrecognisedSystemOff2Type, UnrecognisedSystemReset2Type, UnrecognisedSuspendMode, UnrecognisedErrorCode, OverflowingErrorCode, InvalidVersion, UnrecognisedHwState, IgnoredNonZeroAff3, MixedCallForms, InvalidStateId, InvalidMajorVersion, WrongLength, InvalidOriginalPowerState, InvalidPowerLevel, InvalidVendorType}
 use Rattle.refusals.specs.declared.WordResult.{WordResult}
 use Rattle.refusals.specs.declared.WordResult.the-variants.{Ok, Err}
 
@@ -25,6 +26,8 @@ refusalNumber MixedCallForms = 14
 refusalNumber (InvalidStateId id) = 15
 refusalNumber (InvalidMajorVersion major) = 16
 refusalNumber (WrongLength count) = 17
+refusalNumber (InvalidOriginalPowerState word) = 26
+refusalNumber (InvalidPowerLevel level) = 27
 refusalNumber (InvalidVendorType vendorType) = 31
 
 -- the value carried, as a signed number: refusals 9 and 10 carry a signed one
@@ -46,6 +49,8 @@ refusalValue MixedCallForms = pos 0
 refusalValue (InvalidStateId id) = pos id
 refusalValue (InvalidMajorVersion major) = pos major
 refusalValue (WrongLength count) = pos count
+refusalValue (InvalidOriginalPowerState word) = pos word
+refusalValue (InvalidPowerLevel level) = pos level
 refusalValue (InvalidVendorType vendorType) = pos vendorType
 
 abbrev pub refusal : {A : Type 0} → Error → Answer A

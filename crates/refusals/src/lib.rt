@@ -27,6 +27,8 @@ pub enum Error {
     InvalidStateId(u32), // 15
     InvalidMajorVersion(u16), // 16
     WrongLength(usize), // 17
+    InvalidOriginalPowerState(u32), // 26
+    InvalidPowerLevel(u8), // 27
     InvalidVendorType(u32), // 31
 }
 
@@ -53,6 +55,8 @@ impl Error {
             Self::InvalidStateId(_) => 15,
             Self::InvalidMajorVersion(_) => 16,
             Self::WrongLength(_) => 17,
+            Self::InvalidOriginalPowerState(_) => 26,
+            Self::InvalidPowerLevel(_) => 27,
             Self::InvalidVendorType(_) => 31,
         }
     }
@@ -79,6 +83,8 @@ impl Error {
             Self::InvalidStateId(value) => value as u64,
             Self::InvalidMajorVersion(value) => value as u64,
             Self::WrongLength(value) => value as u64,
+            Self::InvalidOriginalPowerState(value) => value as u64,
+            Self::InvalidPowerLevel(value) => value as u64,
             Self::InvalidVendorType(value) => value as u64,
         }
     }

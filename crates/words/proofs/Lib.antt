@@ -2,6 +2,8 @@ pub mod MpidrHalves
 pub mod MpidrLaws
 pub mod MpidrWords
 pub mod NumberedWords
+pub mod OriginalPowerStateLaws
+pub mod OriginalPowerStateWords
 pub mod PowerStateLaws
 pub mod PowerStateWords
 pub mod ResetTypeLaws

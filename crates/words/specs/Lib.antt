@@ -5,6 +5,8 @@ pub mod HwStates
 pub mod MemProtectRanges
 pub mod MpidrLaws
 pub mod Mpidrs
+pub mod OriginalPowerStateLaws
+pub mod OriginalPowerStates
 pub mod PowerStateLaws
 pub mod PowerStates
 pub mod PsciFeatures

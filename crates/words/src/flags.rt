@@ -1,4 +1,4 @@
-// A flag as a word: memory protect, in the four written words.
+// A flag as a word: memory protect, in the four written words, and the part of a call that says power down in the original format.
 ghost use mathlib.Core.Path.{_≡_};
 ghost use Rattle.words.specs.Flags.{flagWord};
 

@@ -1,11 +1,12 @@
 // The single words of a power call, a module for each type, with its reader, its writer, its constants and its laws: document 01, "Single
-// words" and "The typed call". Function numbers and codes have crates of their own.
+// words" and "The typed call", and document 02, Change 1. Function numbers and codes have crates of their own.
 mod cookies;
 mod entry_points;
 mod flags;
 mod hw_states;
 mod mem_protect_ranges;
 mod mpidrs;
+mod original_power_states;
 mod power_states;
 mod psci_features;
 mod reset_types;
@@ -27,6 +28,8 @@ pub use mem_protect_ranges::length_word;
 pub use mpidrs::Aff3;
 pub use mpidrs::Mpidr;
 pub use mpidrs::MpidrResult;
+pub use original_power_states::OriginalPowerState;
+pub use original_power_states::OriginalPowerStateResult;
 pub use power_states::PowerState;
 pub use power_states::PowerStateResult;
 pub use psci_features::PsciFeature;
