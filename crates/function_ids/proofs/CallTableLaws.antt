@@ -2,17 +2,16 @@
 use mathlib.Core.Path.{_≡_, refl, sym, ap, _∙_}
 use mathlib.Core.Bool.{Bool, true, false, cond}
 use mathlib.Core.List.{List, [], _∷_, map}
-use mathlib.Core.Logic.{⊎-elim}
 use Prim.Native.Nat.{ℕ}
 use native.Mathlib.Omega.{arith}
 use lib.Dec.{eqb}
 use lib.ListN.{length, getD}
 use borrow.Author.Tests.{eqb-true, eq-eqb}
-use Rattle.bits.proofs.Picks.{choice, both-true, other-true, with-either}
+use Rattle.bits.proofs.Picks.{choice, both-true, other-true}
 use Rattle.function_ids.specs.FunctionIds.{Form, functions, functionNumber, form32, form64, narrow, wide}
 use Rattle.function_ids.specs.declared.FunctionId.the-variants.{MemProtect}
-use Rattle.function_ids.specs.CallTable.{Kind, powerState, entry, context, mpidr, level, feature, mode, resetType, offType, cookie, rangeBase, rangeLength, memoryProtect, kindNumber, sameKind, Listed, Row, one, both, callTable, numbers, Part, whole, zeroOrNot, bitsOf, Rule, rule, ruleIn, ruleOf, lookIn, lookBy, lookAt}
-use Rattle.function_ids.specs.CallTableLaws.{CallTableLaws, apart}
+use Rattle.function_ids.specs.CallTable.{Kind, powerState, entry, context, mpidr, level, feature, mode, resetType, offType, cookie, rangeBase, rangeLength, memoryProtect, kindNumber, sameKind, Listed, Row, one, both, callTable, numbers, Part, whole, zeroOrNot, bitsOf, Rule, rule, ruleIn, ruleOf, lookIn, lookBy, lookAt, valueIn}
+use Rattle.function_ids.specs.CallTableLaws.{CallTableLaws, apart, lacks, numbersWith, NotAmong}
 
 -- document 01's table has these numbers, and there are exactly 35
 pub the-table : map functionNumber functions ≡ numbers callTable
@@ -75,18 +74,45 @@ told memoryProtect = refl
 pub same-kind : (k l : Kind) → sameKind k l ≡ true → k ≡ l
 same-kind k l h = sym (told k) ∙ ap kindAt (eqb-true (kindNumber k) (kindNumber l) h) ∙ told l
 
+-- ---- the numbers that list a kind
+
+module _ (kind : Kind) (number : ℕ) where
+  -- a rule has no field of the kind
+  abbrev Lacks : Rule → Type 0
+  Lacks r = lacks kind (r .fields) ≡ true
+
+  -- a row that lists the kind has other numbers, and one that does not lacks it
+  one-row : (n : ℕ) (fields : List Listed) (rows : List Row) (t : Bool) → lacks kind fields ≡ t →
+      NotAmong (cond t (numbersWith kind rows) (form32 n ∷ numbersWith kind rows)) number →
+      (NotAmong (numbersWith kind rows) number → Lacks (ruleIn rows number)) → Lacks (ruleIn (one n fields ∷ rows) number)
+  one-row n fields rows true e none later = choice Lacks (eqb number (form32 n)) (λ t. e) (λ t. later none)
+  one-row n fields rows false e none later =
+      choice Lacks (eqb number (form32 n)) (λ t. absurd (none .0 (eqb-true number (form32 n) t))) (λ t. later (none .1))
+
+  both-row : (n : ℕ) (fields : List Listed) (rows : List Row) (t : Bool) → lacks kind fields ≡ t →
+      NotAmong (cond t (numbersWith kind rows) (form32 n ∷ form64 n ∷ numbersWith kind rows)) number →
+      (NotAmong (numbersWith kind rows) number → Lacks (ruleIn rows number)) → Lacks (ruleIn (both n fields ∷ rows) number)
+  both-row n fields rows true e none later =
+      choice Lacks (eqb number (form32 n)) (λ t. e) (λ t. choice Lacks (eqb number (form64 n)) (λ u. e) (λ u. later none))
+  both-row n fields rows false e none later =
+      choice Lacks (eqb number (form32 n)) (λ t. absurd (none .0 (eqb-true number (form32 n) t)))
+      (λ t. choice Lacks (eqb number (form64 n)) (λ u. absurd (none .1 .0 (eqb-true number (form64 n) u))) (λ u. later (none .1 .1)))
+
+  lacks-in : (rows : List Row) → NotAmong (numbersWith kind rows) number → Lacks (ruleIn rows number)
+  lacks-in [] none = refl
+  lacks-in (one n fields ∷ rows) none = one-row n fields rows (lacks kind fields) refl none (lacks-in rows)
+  lacks-in (both n fields ∷ rows) none = both-row n fields rows (lacks kind fields) refl none (lacks-in rows)
+
+zero-where-lacking : (kind : Kind) (words : List ℕ) (fields : List Listed) → lacks kind fields ≡ true → valueIn fields words kind ≡ 0
+zero-where-lacking kind words [] e = refl
+zero-where-lacking kind words (f ∷ fs) e =
+    let p = other-true (sameKind (f .kind) kind) (lacks kind fs) e in simp (p .0) (zero-where-lacking kind words fs (p .1))
+
+pub no-such-field : (kind : Kind) (words : List ℕ) (number : ℕ) → NotAmong (numbersWith kind callTable) number → valueIn (ruleOf number .fields) words kind ≡ 0
+unfolding ruleOf
+no-such-field kind words number none = zero-where-lacking kind words (ruleOf number .fields) (lacks-in kind number callTable none)
+
 -- ---- the part of r1 that memory protect looks at
-
--- whether none of some fields is memory protect's
-abbrev unprotected : List Listed → Bool
-unprotected [] = true
-unprotected (f ∷ fs) = cond (sameKind (f .kind) memoryProtect) false (unprotected fs)
-
--- whether no row has its field but that with its number
-abbrev protectOnce : List Row → Bool
-protectOnce [] = true
-protectOnce (one n fields ∷ rows) = cond (cond (eqb n 0x13) true (unprotected fields)) (protectOnce rows) false
-protectOnce (both n fields ∷ rows) = cond (unprotected fields) (protectOnce rows) false
 
 module _ (protect : Part) (form : Form) where
   kind-alike : (k : Kind) → sameKind k memoryProtect ≡ false → bitsOf protect form k ≡ bitsOf whole form k
@@ -104,40 +130,21 @@ module _ (protect : Part) (form : Form) where
   kind-alike rangeLength h = refl
   kind-alike memoryProtect h = let z : _≡_ {A = ℕ} 0 1 = ap (λ (b : Bool). cond b 0 1) h in absurd (omega arith)
 
-  fields-alike : (fields : List Listed) (register : ℕ) → unprotected fields ≡ true → lookIn protect form fields register ≡ lookIn whole form fields register
+  fields-alike : (fields : List Listed) (register : ℕ) → lacks memoryProtect fields ≡ true → lookIn protect form fields register ≡ lookIn whole form fields register
   fields-alike [] register h = refl
   fields-alike (f ∷ fs) register h =
-      let p = other-true (sameKind (f .kind) memoryProtect) (unprotected fs) h in
+      let p = other-true (sameKind (f .kind) memoryProtect) (lacks memoryProtect fs) h in
       simp (kind-alike (f .kind) (p .0), fields-alike fs register (p .1))
 
 protect-field : (protect : Part) → lookBy protect (functionNumber MemProtect) 1 ≡ zeroOrNot protect
 unfolding ruleOf
 protect-field protect = refl
 
-module _ (protect : Part) (number register : ℕ) (other : number ≡ functionNumber MemProtect → ⊥) where
-  -- a rule looks at the same whichever part it is
-  abbrev Alike : Rule → Type 0
-  Alike r = lookIn protect (r .form) (r .fields) register ≡ lookIn whole (r .form) (r .fields) register
-
-  -- a row with this number looks alike: it has no field of memory protect, or that number
-  row-alike : (n : ℕ) (fields : List Listed) → cond (eqb n 0x13) true (unprotected fields) ≡ true → eqb number (form32 n) ≡ true → Alike (rule narrow fields)
-  row-alike n fields h e =
-      let p = with-either (eqb n 0x13) (unprotected fields) h in
-      ⊎-elim (λ t. absurd (other (eqb-true number (form32 n) e ∙ ap form32 (eqb-true n 0x13 t)))) (λ t. fields-alike protect narrow fields register t) p
-
-  alike-in : (rows : List Row) → protectOnce rows ≡ true → Alike (ruleIn rows number)
-  alike-in [] h = refl
-  alike-in (one n fields ∷ rows) h =
-      let p = both-true (cond (eqb n 0x13) true (unprotected fields)) (protectOnce rows) h in
-      choice Alike (eqb number (form32 n)) (λ e. row-alike n fields (p .0) e) (λ e. alike-in rows (p .1))
-  alike-in (both n fields ∷ rows) h =
-      let p = both-true (unprotected fields) (protectOnce rows) h in
-      choice Alike (eqb number (form32 n)) (λ e. fields-alike protect narrow fields register (p .0))
-      (λ e. choice Alike (eqb number (form64 n)) (λ d. fields-alike protect wide fields register (p .0)) (λ d. alike-in rows (p .1)))
-
-  pub protect-alone : lookBy protect number register ≡ lookAt number register
-  unfolding ruleOf
-  protect-alone = alike-in callTable refl
+-- memory protect's number is the one that lists its field
+pub protect-alone : (protect : Part) (number register : ℕ) → (number ≡ functionNumber MemProtect → ⊥) → lookBy protect number register ≡ lookAt number register
+unfolding ruleOf
+protect-alone protect number register other =
+    fields-alike protect (ruleOf number .form) (ruleOf number .fields) register (lacks-in memoryProtect number callTable (other, tt))
 
 pub call-table-laws : CallTableLaws
 call-table-laws = record {
@@ -146,6 +153,7 @@ call-table-laws = record {
   one-field = one-field;
   same-kind = same-kind;
   own-kind = λ k. eq-eqb (kindNumber k) (kindNumber k) refl;
+  no-such-field = no-such-field;
   protect-field = protect-field;
   protect-alone = protect-alone;
 }
