@@ -98,75 +98,75 @@ impl Function {
     {
         match self {
             Self::Version => FunctionIdResult::Ok(FunctionId::PsciVersion),
-            Self::CpuSuspend { entry, .. } => forms::by_entry(
+            Self::CpuSuspend { entry, .. } => FunctionIdResult::Ok(forms::by_entry(
                 entry,
                 FunctionId::CpuSuspend32,
                 FunctionId::CpuSuspend64,
-            ),
+            )),
             Self::CpuOff => FunctionIdResult::Ok(FunctionId::CpuOff),
             Self::CpuOn { target_cpu, entry } => forms::cpu_on(target_cpu, entry),
-            Self::AffinityInfo { mpidr, .. } => forms::by_mpidr(
+            Self::AffinityInfo { mpidr, .. } => FunctionIdResult::Ok(forms::by_mpidr(
                 mpidr,
                 FunctionId::AffinityInfo32,
                 FunctionId::AffinityInfo64,
-            ),
-            Self::Migrate { target_affinity } => forms::by_mpidr(
+            )),
+            Self::Migrate { target_affinity } => FunctionIdResult::Ok(forms::by_mpidr(
                 target_affinity,
                 FunctionId::Migrate32,
                 FunctionId::Migrate64,
-            ),
+            )),
             Self::MigrateInfoType => FunctionIdResult::Ok(FunctionId::MigrateInfoType),
-            Self::MigrateInfoUpCpu { is_32bit } => forms::by_flag(
+            Self::MigrateInfoUpCpu { is_32bit } => FunctionIdResult::Ok(forms::by_flag(
                 is_32bit,
                 FunctionId::MigrateInfoUpCpu32,
                 FunctionId::MigrateInfoUpCpu64,
-            ),
+            )),
             Self::SystemOff => FunctionIdResult::Ok(FunctionId::SystemOff),
-            Self::SystemOff2 { cookie, .. } => forms::by_cookie(
+            Self::SystemOff2 { cookie, .. } => FunctionIdResult::Ok(forms::by_cookie(
                 cookie,
                 FunctionId::SystemOff232,
                 FunctionId::SystemOff264,
-            ),
+            )),
             Self::SystemReset => FunctionIdResult::Ok(FunctionId::SystemReset),
-            Self::SystemReset2 { cookie, .. } => forms::by_cookie(
+            Self::SystemReset2 { cookie, .. } => FunctionIdResult::Ok(forms::by_cookie(
                 cookie,
                 FunctionId::SystemReset232,
                 FunctionId::SystemReset264,
-            ),
+            )),
             Self::MemProtect { .. } => FunctionIdResult::Ok(FunctionId::MemProtect),
-            Self::MemProtectCheckRange { range } => forms::by_range(
+            Self::MemProtectCheckRange { range } => FunctionIdResult::Ok(forms::by_range(
                 range,
                 FunctionId::MemProtectCheckRange32,
                 FunctionId::MemProtectCheckRange64,
-            ),
+            )),
             Self::Features { .. } => FunctionIdResult::Ok(FunctionId::PsciFeatures),
             Self::CpuFreeze => FunctionIdResult::Ok(FunctionId::CpuFreeze),
-            Self::CpuDefaultSuspend { entry } => forms::by_entry(
+            Self::CpuDefaultSuspend { entry } => FunctionIdResult::Ok(forms::by_entry(
                 entry,
                 FunctionId::CpuDefaultSuspend32,
                 FunctionId::CpuDefaultSuspend64,
-            ),
-            Self::NodeHwState { target_cpu, .. } => forms::by_mpidr(
+            )),
+            Self::NodeHwState { target_cpu, .. } => FunctionIdResult::Ok(forms::by_mpidr(
                 target_cpu,
                 FunctionId::NodeHwState32,
                 FunctionId::NodeHwState64,
-            ),
-            Self::SystemSuspend { entry } => forms::by_entry(
+            )),
+            Self::SystemSuspend { entry } => FunctionIdResult::Ok(forms::by_entry(
                 entry,
                 FunctionId::SystemSuspend32,
                 FunctionId::SystemSuspend64,
-            ),
+            )),
             Self::SetSuspendMode { .. } => FunctionIdResult::Ok(FunctionId::PsciSetSuspendMode),
-            Self::StatResidency { target_cpu, .. } => forms::by_mpidr(
+            Self::StatResidency { target_cpu, .. } => FunctionIdResult::Ok(forms::by_mpidr(
                 target_cpu,
                 FunctionId::PsciStatResidency32,
                 FunctionId::PsciStatResidency64,
-            ),
-            Self::StatCount { target_cpu, .. } => forms::by_mpidr(
+            )),
+            Self::StatCount { target_cpu, .. } => FunctionIdResult::Ok(forms::by_mpidr(
                 target_cpu,
                 FunctionId::PsciStatCount32,
                 FunctionId::PsciStatCount64,
-            ),
+            )),
         }
     }
 }
