@@ -1,13 +1,17 @@
--- Decoding, then encoding into a lent run: the set's call, written again; by document 01's decoder and by Change 2's.
+-- Decoding, then encoding into a lent run: the set's call, written again; by any codec, by document 01's and by Change 2's.
 use mathlib.Core.List.{List}
 use Prim.Native.Nat.{ℕ}
 use Rattle.refusals.specs.Answers.{Answer, andThen}
-use Rattle.decode_definition.specs.Decode.{decodeOf, decodeSmccc}
-use Rattle.encode_definition.specs.Encode.{encodeOf}
+use Rattle.roundtrip.specs.Codec.{Codec}
+use Rattle.roundtrip.specs.Psci.{psci}
+use Rattle.roundtrip.specs.Smccc.{smccc}
 
 -- decode's refusals first, then encode's
+abbrev pub recodeBy : Codec → List ℕ → List ℕ → Answer (List ℕ)
+recodeBy c regs run = andThen (c .decode regs) (λ f. c .encode f run)
+
 abbrev pub recodeOf : List ℕ → List ℕ → Answer (List ℕ)
-recodeOf regs run = andThen (decodeOf regs) (λ f. encodeOf f run)
+recodeOf regs run = recodeBy psci regs run
 
 abbrev pub recodeSmccc : List ℕ → List ℕ → Answer (List ℕ)
-recodeSmccc regs run = andThen (decodeSmccc regs) (λ f. encodeOf f run)
+recodeSmccc regs run = recodeBy smccc regs run

@@ -7,11 +7,10 @@ use lib.ListN.{getD}
 use mir.Syntax.{w64}
 use mir.Val.{Fits}
 use borrow.Author.Needs.{needs}
-use Rattle.function_ids.specs.CallTable.{lookAt}
 use Rattle.function.specs.Functions.{functionAnswer}
-use Rattle.decode_definition.specs.Decode.{decodeOf}
+use Rattle.roundtrip.specs.Psci.{psci}
 use Rattle.roundtrip.proofs.Psci.{demand3-of-01}
-use Rattle.roundtrip.proofs.Recoding.{encoded, read-again, not-decoded}
+use Rattle.roundtrip.proofs.Recoding.{encoded, not-decoded, read-again, four-of-01}
 use Rattle.roundtrip.proofs.recode.Statement.{statement}
 use Rattle.roundtrip.proofs.recode.Tie as tie
 
@@ -20,12 +19,12 @@ returns c =
     let regs = c .before .before .before .before .before .before .before .before .before .args .regs in
     let fits : (i : ℕ) → Fits w64 (getD regs i 0) = λ i. search needs in
     let decoded = sym (c .before .before .before .before .before .before .before .decode .ensures) ∙ ap functionAnswer (c .before .before .before .before .before .function .given .1) in
-    let told = encoded regs _ _ (c .before .before .encode .result) _ decoded (c .before .before .encode .ensures) in
-    (told, (λ ok. read-again decodeOf lookAt demand3-of-01 regs _ (c .before .before .encode .result) _ (record { fits = λ i. fits i .fits }) (told .0) ok))
+    let told = encoded psci regs _ _ (c .before .before .encode .result) _ decoded (c .before .before .encode .ensures) in
+    (told, (λ ok. read-again psci regs _ demand3-of-01 (four-of-01 _) (c .before .before .encode .result) _ (record { fits = λ i. fits i .fits }) (told .0) ok))
 
 returns-2 : tie.Need-returns-2
 returns-2 c = (
-  not-decoded _ _ (sym (c .before .before .before .decode .ensures) ∙ ap functionAnswer (c .before .error .given .1)),
+  not-decoded psci _ _ (sym (c .before .before .before .decode .ensures) ∙ ap functionAnswer (c .before .error .given .1)),
   (λ ok. let z : _≡_ {A = ℕ} 0 1 = cc in absurd (omega arith)),
 )
 
