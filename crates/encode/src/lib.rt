@@ -2,10 +2,12 @@
 ghost use mathlib.Core.Path.{_≡_};
 ghost use mathlib.Core.List.{_∷_, []};
 ghost use lib.ListN.{length};
+ghost use Rattle.refusals.specs.Answers.{accepted};
 ghost use Rattle.refusals.specs.Lent.{left};
 ghost use Rattle.function_ids.specs.FunctionIds.{functionNumber};
-ghost use Rattle.encode_definition.specs.Encode.{encodeOf};
+ghost use Rattle.encode_definition.specs.Encode.{encodeOf, writtenOf};
 ghost use Rattle.encode.specs.Answers.{encodeAnswer};
+ghost use Rattle.encode.specs.ArgumentAnswers.{argumentsAnswer};
 
 pub mod arguments;
 
@@ -16,6 +18,9 @@ use function::Function;
 use function_ids::FunctionId;
 use function_ids::FunctionIdResult;
 use refusals::Error;
+
+// How many numbers a call's run has.
+const RUN: usize = 4;
 
 // What encoding gives: the words are in the lent run, or nothing was written.
 pub enum EncodeResult {
@@ -29,18 +34,31 @@ pub fn encode(function: Function, out: &mut [u64]) -> EncodeResult
     ensures { λ r. ⌜ (encodeAnswer r (now (out .exit)) ≡ encodeOf function (now (out .entry))) × (now (out .exit) ≡ left (encodeOf function (now (out .entry))) (now (out .entry))) ⌝ }
 {
     let length = out.len();
-    if length != 4 {
+    if length != RUN {
         return EncodeResult::Err(Error::WrongLength(length));
     }
     match function.function_id() {
         FunctionIdResult::Err(error) => EncodeResult::Err(error),
-        FunctionIdResult::Ok(function_id) => match argument_words(function) {
-            ArgumentsResult::Err(error) => EncodeResult::Err(error),
-            ArgumentsResult::Ok(arguments) => {
-                store(words(function_id, arguments), out);
-                EncodeResult::Ok
-            }
-        },
+        FunctionIdResult::Ok(function_id) => write(function_id, argument_words(function), out),
+    }
+}
+
+// Writes a function number and the arguments behind it. Refused in this order, and the run left as it was: a run not four numbers long with 17; then
+// the arguments, with their own refusal. The number is sure: where one may be refused, as in `encode`, the caller asks for it first. With an answer for
+// it as the parameter, and one test of the length, `encode` takes some twelve instructions more (docs/BENCHMARKS.md).
+pub fn write(function_id: FunctionId, arguments: ArgumentsResult, out: &mut [u64]) -> EncodeResult
+    ensures { λ r. ⌜ (encodeAnswer r (now (out .exit)) ≡ writtenOf (accepted «function_id») (argumentsAnswer arguments) (now (out .entry))) × (now (out .exit) ≡ left (writtenOf (accepted «function_id») (argumentsAnswer arguments) (now (out .entry))) (now (out .entry))) ⌝ }
+{
+    let length = out.len();
+    if length != RUN {
+        return EncodeResult::Err(Error::WrongLength(length));
+    }
+    match arguments {
+        ArgumentsResult::Err(error) => EncodeResult::Err(error),
+        ArgumentsResult::Ok(arguments) => {
+            store(words(function_id, arguments), out);
+            EncodeResult::Ok
+        }
     }
 }
 

@@ -7,15 +7,27 @@ use lib.IntN.{pos}
 use lib.ListN.{length}
 use Rattle.refusals.specs.Answers.{Answer, refused, through, andThen}
 use Rattle.function_ids.specs.FunctionIds.{functionNumber}
+use Rattle.function_ids.specs.declared.FunctionId.{FunctionId}
 use Rattle.function.specs.Functions.{functionIdOf}
 use Rattle.function.specs.declared.Function.{Function}
 use Rattle.encode_definition.specs.Arguments.{argumentsOf}
 
--- word 0 is the function number; refusal 14 is its, 15 that of a power state, 31 that of a reset type
-unfoldable pub wordsOf : Function → Answer (List ℕ)
-wordsOf f = andThen (functionIdOf f) (λ id. through (λ arguments. functionNumber id ∷ arguments) (argumentsOf f))
+-- word 0 is the function number; its refusal comes before that of the arguments
+abbrev pub withNumber : Answer FunctionId → Answer (List ℕ) → Answer (List ℕ)
+withNumber number arguments = andThen number (λ id. through (λ words. functionNumber id ∷ words) arguments)
 
--- refusal 17 first: a lent run not exactly four numbers long. The words too are four, and so all that `left` leaves in it (`all-left` in
--- proofs/Laws.antt)
+-- refusal 17 first: a lent run not exactly four numbers long
+abbrev pub inFour : Answer (List ℕ) → List ℕ → Answer (List ℕ)
+inFour words run = cond (eqb (length run) 4) words (refused 17 (pos (length run)))
+
+-- a function number and arguments, written into a run
+unfoldable pub writtenOf : Answer FunctionId → Answer (List ℕ) → List ℕ → Answer (List ℕ)
+writtenOf number arguments run = inFour (withNumber number arguments) run
+
+-- refusal 14 is the number's, 15 that of a power state, 31 that of a reset type
+unfoldable pub wordsOf : Function → Answer (List ℕ)
+wordsOf f = withNumber (functionIdOf f) (argumentsOf f)
+
+-- the arguments are three (`three-arguments` in proofs/Laws.antt), so the words are four as the run is, and all that `left` leaves in it
 unfoldable pub encodeOf : Function → List ℕ → Answer (List ℕ)
-encodeOf f run = cond (eqb (length run) 4) (wordsOf f) (refused 17 (pos (length run)))
+encodeOf f run = writtenOf (functionIdOf f) (argumentsOf f) run

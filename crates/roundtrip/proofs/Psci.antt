@@ -1,5 +1,5 @@
 -- Demand 3 of document 01's codec and of Change 2's: what they accept is written as the kept words. Assumes nothing.
-use mathlib.Core.Path.{_≡_, refl, subst}
+use mathlib.Core.Path.{_≡_, refl, subst, _∙_}
 use mathlib.Core.List.{List, [], _∷_}
 use Prim.Native.Nat.{ℕ, _^_, _<_}
 use native.Mathlib.Omega.{arith}
@@ -14,7 +14,8 @@ use Rattle.function_ids.proofs.FunctionIdLaws.{function-number}
 use Rattle.function_ids.specs.CallTable.{Part, lowHalf, whole, partOf, Look, nothing, value, zeroOrNot, ruleOf, lookBy, keep, numberIn, keptBy, kept, keptSmccc, valueIn}
 use Rattle.function.specs.declared.Function.{Function}
 use Rattle.decode_definition.specs.Decode.{callOf, callIn, decodeBy, decodeOf, decodeSmccc}
-use Rattle.encode_definition.specs.Encode.{wordsOf, encodeOf}
+use Rattle.encode_definition.specs.Encode.{inFour, wordsOf, encodeOf}
+use Rattle.encode_definition.proofs.Laws.{in-four}
 use Rattle.roundtrip.specs.Codec.{Registers}
 use Rattle.roundtrip.specs.Psci.{psci, Demand3Of01}
 use Rattle.roundtrip.specs.Smccc.{smccc, Demand3OfSmccc}
@@ -50,8 +51,8 @@ module _ (protect : Part) where
 
   written-by : (r : List ℕ) (f : Function) (run : List ℕ) → Registers r → length run ≡ 4 → decodeBy protect r ≡ accepted f →
       encodeOf f run ≡ accepted (keptBy (lookBy protect) r)
-  unfolding encodeOf
-  written-by r f run h l d = simp (eq-eqb (length run) 4 l) (writes r f h d)
+  written-by r f run h l d =
+      let four : inFour (wordsOf f) run ≡ accepted (keptBy (lookBy protect) r) = simp (eq-eqb (length run) 4 l) (writes r f h d) in in-four f run ∙ four
 
 -- an accepted set's call is written as the kept words, into any lent run of four
 pub written : (r : List ℕ) (f : Function) (run : List ℕ) → Registers r → length run ≡ 4 → decodeOf r ≡ accepted f → encodeOf f run ≡ accepted (kept r)

@@ -12,8 +12,8 @@ use Rattle.function.specs.declared.Function.{Function}
 use Rattle.decode_definition.specs.Decode.{decodeOf}
 use Rattle.decode_definition.specs.TwoDecodings.{lowHalfForProtect}
 use Rattle.decode_definition.proofs.TwoDecodings.{by-01}
-use Rattle.encode_definition.specs.Encode.{encodeOf}
-use Rattle.encode_definition.proofs.Laws.{run-of-four}
+use Rattle.encode_definition.specs.Encode.{wordsOf, encodeOf}
+use Rattle.encode_definition.proofs.Laws.{run-of-four, in-four}
 use Rattle.encode.specs.Answers.{encodeAnswer}
 use Rattle.encode.specs.declared.EncodeResult.{EncodeResult}
 use Rattle.encode.specs.declared.EncodeResult.the-variants.{Ok}
@@ -43,7 +43,7 @@ module _ (c : Codec) where
 
 -- document 01's encoding writes into runs of four
 pub four-of-01 : (run : List ℕ) (f : Function) (last : List ℕ) → encodeOf f run ≡ accepted last → length run ≡ 4
-four-of-01 run f last e = run-of-four f run last e
+four-of-01 run f last e = run-of-four (wordsOf f) run last (sym (in-four f run) ∙ e)
 
 -- by Change 2's decoder: the same of the set with r1's low half for memory protect
 pub by-smccc : (regs run read : List ℕ) (r : EncodeResult) (last : List ℕ) → read ≡ lowHalfForProtect regs →
