@@ -52,7 +52,7 @@ of-protect regs e =
     ∙ simp (first-stays regs, second-low regs))
 
 -- decoding asks for four registers
-four-only : (regs : List ℕ) → decodeOf regs ≡ decodeOf (getD regs 0 0 ∷ getD regs 1 0 ∷ getD regs 2 0 ∷ getD regs 3 0 ∷ [])
+pub four-only : (regs : List ℕ) → decodeOf regs ≡ decodeOf (getD regs 0 0 ∷ getD regs 1 0 ∷ getD regs 2 0 ∷ getD regs 3 0 ∷ [])
 unfolding decodeOf decodeBy
 four-only regs = refl
 

@@ -5,7 +5,6 @@ use lib.Dec.{leb}
 use lib.IntN.{pos}
 use Rattle.refusals.specs.Answers.{Answer, refused, through, andThen}
 use Rattle.words.specs.declared.mpidrs.Mpidr.{Mpidr}
-use Rattle.words.specs.declared.power_states.PowerState.{PowerState}
 use Rattle.function.specs.declared.Function.{Function}
 use Rattle.function.specs.declared.Function.the-variants.{AffinityInfo}
 
@@ -13,6 +12,6 @@ use Rattle.function.specs.declared.Function.the-variants.{AffinityInfo}
 abbrev pub affinityInfo : ℕ → ℕ → Answer Mpidr → Answer Function
 affinityInfo most lowest m = cond (leb lowest most) (through (λ x. AffinityInfo x lowest) m) (refused 5 (pos lowest))
 
--- two fields by register: the MPIDR is refused before the power state
-abbrev pub ofCoreState : (Mpidr → PowerState → Function) → Answer Mpidr → Answer PowerState → Answer Function
+-- two fields by register: the MPIDR is refused before the power state, whichever format that has
+abbrev pub ofCoreState : {State Call : Type 0} → (Mpidr → State → Call) → Answer Mpidr → Answer State → Answer Call
 ofCoreState call m s = andThen m (λ x. through (call x) s)

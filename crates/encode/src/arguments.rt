@@ -100,8 +100,8 @@ fn three(r1: u64, r2: u64, r3: u64) -> ArgumentsResult
     ArgumentsResult::Ok(Arguments { r1, r2, r3 })
 }
 
-// With a word in r1 whose writer may refuse.
-fn with_first(word: WordResult, r2: u64, r3: u64) -> ArgumentsResult
+// The words of a call with a word in r1 whose writer may refuse: then its refusal.
+pub fn with_first(word: WordResult, r2: u64, r3: u64) -> ArgumentsResult
     ensures { λ r. ⌜ argumentsAnswer r ≡ through (λ w. w ∷ r2 ∷ r3 ∷ []) (wordAnswer word) ⌝ }
 {
     match word {
@@ -110,8 +110,8 @@ fn with_first(word: WordResult, r2: u64, r3: u64) -> ArgumentsResult
     }
 }
 
-// With a word in r2 whose writer may refuse.
-fn with_second(r1: u64, word: WordResult) -> ArgumentsResult
+// The words of a call with a word in r2 whose writer may refuse: then its refusal. r3 is zero.
+pub fn with_second(r1: u64, word: WordResult) -> ArgumentsResult
     ensures { λ r. ⌜ argumentsAnswer r ≡ through (λ w. r1 ∷ w ∷ 0 ∷ []) (wordAnswer word) ⌝ }
 {
     match word {

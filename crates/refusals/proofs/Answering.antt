@@ -34,6 +34,11 @@ pub came-then : {A B : Type 0} (x : Answer A) (f : A → Answer B) (b : B) → a
 came-then (accepted a) f b q = (a, (refl, q))
 came-then (refused number value) f b q = not-accepted q
 
+-- a step after two steps is one after the second
+pub then-then : {A B C : Type 0} (x : Answer A) (f : A → Answer B) (g : B → Answer C) → andThen x (λ a. andThen (f a) g) ≡ andThen (andThen x f) g
+then-then (accepted a) f g = refl
+then-then (refused number value) f g = refl
+
 -- what a test handed on
 pub handed-on : {A : Type 0} (t : Bool) (x : Answer A) (b : A) (number : ℕ) (value : ℤ) → cond t x (refused number value) ≡ accepted b → (t ≡ true) × (x ≡ accepted b)
 handed-on true x b number value q = (refl, q)

@@ -65,12 +65,12 @@ state-row : (call : PowerState → Function) (words : List ℕ) (a : ℕ) → a 
 state-row call words a h f = word-row call words readPowerState writePowerState (power-state-laws .power-state-writes-back) a h f
 
 -- a core address in either form
-abbrev mpidrAt : Form → ℕ → Answer Mpidr
+abbrev pub mpidrAt : Form → ℕ → Answer Mpidr
 mpidrAt narrow a = readMpidr32 a
 mpidrAt wide a = readMpidr64 a
 
 -- it has its form, and is written as it was
-mpidr-back : (form : Form) (a : ℕ) (m : Mpidr) → mpidrAt form a ≡ accepted m → (mpidrForm (m .aff3) ≡ form) × (writeMpidr64 m ≡ a)
+pub mpidr-back : (form : Form) (a : ℕ) (m : Mpidr) → mpidrAt form a ≡ accepted m → (mpidrForm (m .aff3) ≡ form) × (writeMpidr64 m ≡ a)
 mpidr-back narrow a m e = let o = mpidr32-wide a m e in (ap mpidrForm (o .0), o .1)
 mpidr-back wide a m e = let o = mpidr64-wide a m e in (ap mpidrForm (o .0 .1), o .1)
 

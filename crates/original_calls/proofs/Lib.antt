@@ -1,0 +1,8 @@
+pub mod DecodeLaws
+pub mod Elsewhere
+pub mod EncodeLaws
+pub mod Original
+pub mod OriginalCases
+pub mod Rows
+pub mod Sorts
+pub mod TwoFormats

@@ -1,0 +1,19 @@
+-- Change 1's codec, demand 3 of it, and its recode: a register set is compared only with others read in the same format. What is looked at is document 01's, memory
+-- protect's r1 too.
+use mathlib.Core.List.{List}
+use Prim.Native.Nat.{ℕ}
+use Rattle.refusals.specs.Answers.{Answer}
+use Rattle.function_ids.specs.CallTable.{lookAt}
+use Rattle.roundtrip.specs.Codec.{Codec, Demand3}
+use Rattle.roundtrip.specs.Recode.{recodeBy}
+use Rattle.original_calls.specs.OriginalCalls.{originalDecodeOf, originalEncodeOf}
+use Rattle.original_calls.specs.declared.original_function.OriginalFunction.{OriginalFunction}
+
+abbrev pub original : Codec
+original = record { Call = OriginalFunction; decode = originalDecodeOf; encode = originalEncodeOf; look = lookAt }
+
+abbrev pub Demand3OfOriginal : Type 0
+Demand3OfOriginal = Demand3 original
+
+abbrev pub recodeOriginal : List ℕ → List ℕ → Answer (List ℕ)
+recodeOriginal regs run = recodeBy original regs run
