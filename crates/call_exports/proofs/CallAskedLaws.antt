@@ -5,13 +5,11 @@ use mathlib.Core.List.{List}
 use Prim.Native.Nat.{ℕ}
 use lib.Dec.{eqb}
 use lib.IntN.{ℤ, pos}
-use lib.ListN.{getD}
-use Rattle.refusals.specs.Answers.{Answer, accepted, refused, through}
+use Rattle.refusals.specs.Answers.{Answer, accepted, refused, through, andThen}
 use Rattle.refusals.proofs.Choosing.{NoneOf, none-chosen}
 use Rattle.function.specs.declared.Function.{Function}
 use Rattle.call_exports.specs.PlainWords.{differing, ofParts}
-use Rattle.call_exports.specs.CallWords.{callWords}
-use Rattle.call_exports.specs.CallAsked.{Tagged, calls, callAt, callAsked}
+use Rattle.call_exports.specs.CallAsked.{Tagged, calls, callAt}
 
 module _ (c : List ℕ) where
   -- what an arm of the `match` over the tags gives
@@ -23,16 +21,18 @@ module _ (c : List ℕ) where
   unfolding callAt
   unknown-tag tag n = ap (through (λ (t : Tagged). t .call)) (none-chosen (λ (t : Tagged). t .tag) (refused 1002 (pos tag)) (λ x. x) tag (calls c) n)
 
-  -- the words of a call ask for it
-  pub asked-call : {f : Function} → callAt c (getD c 0 0) ≡ accepted f → eqb (differing c (callWords f)) 0 ≡ true → accepted f ≡ callAsked c
-  unfolding callAsked ofParts
-  asked-call e same = simp (e, same)
+-- a call that was found at a tag: its own words ask for it, and no others
+module _ {A : Type 0} (words : A → List ℕ) (c : List ℕ) (found : Answer A) where
+  abbrev pub OwnWords : Answer A
+  OwnWords = andThen found (λ f. ofParts c (words f) (accepted f))
 
-  -- other words are refused
-  pub asked-wrong : {f : Function} → callAt c (getD c 0 0) ≡ accepted f → eqb (differing c (callWords f)) 0 ≡ false → refused 1003 (pos 0) ≡ callAsked c
-  unfolding callAsked ofParts
-  asked-wrong e other = simp (e, other)
+  pub own-words : {f : A} → found ≡ accepted f → eqb (differing c (words f)) 0 ≡ true → accepted f ≡ OwnWords
+  unfolding ofParts
+  own-words e same = simp (e, same)
 
-  pub asked-refused : {number : ℕ} {value : ℤ} → callAt c (getD c 0 0) ≡ refused number value → refused number value ≡ callAsked c
-  unfolding callAsked
-  asked-refused e = simp e
+  pub other-words : {f : A} → found ≡ accepted f → eqb (differing c (words f)) 0 ≡ false → refused 1003 (pos 0) ≡ OwnWords
+  unfolding ofParts
+  other-words e other = simp (e, other)
+
+  pub none-found : {number : ℕ} {value : ℤ} → found ≡ refused number value → refused number value ≡ OwnWords
+  none-found e = simp e

@@ -32,8 +32,8 @@ fn is_set(part: u64) -> bool
     part != 0
 }
 
-// The call of a tag, its parts cut to their places.
-fn call_at(c: [u64; 9]) -> Asked
+// The call of a tag, its parts cut to their places. A tag above 21 is unknown.
+pub fn call_at(c: [u64; 9]) -> Asked
     ensures { λ r. ⌜ askedAnswer r ≡ callAt c (getD c 0 0) ⌝ }
 {
     let tag = c[0];

@@ -3,7 +3,6 @@
 ghost use mathlib.Core.List.{List};
 ghost use mathlib.Core.Path.{_≡_};
 ghost use Prim.Native.Nat.{ℕ};
-ghost use lib.ListN.{length};
 ghost use Rattle.refusals.specs.Answers.{through};
 ghost use Rattle.refusals.specs.Lent.{left};
 ghost use Rattle.refusals.specs.Told.{refusalIn};
@@ -11,7 +10,7 @@ ghost use Rattle.decode_definition.specs.Decode.{decodeOf, decodeSmccc};
 ghost use Rattle.encode.specs.Answers.{encodeAnswer};
 ghost use Rattle.roundtrip.specs.Recode.{recodeOf, recodeSmccc};
 ghost use Rattle.call_exports.specs.CallWords.{callWords};
-ghost use Rattle.call_exports.specs.Exports.{encodeWords};
+ghost use Rattle.call_exports.specs.Exports.{stored, encodeWords};
 
 pub mod call_asked;
 pub mod call_words;
@@ -30,11 +29,14 @@ use refusals::told::Refusal;
 use refusals::told::accepted_words;
 use refusals::told::refusal_of;
 
-// The nine words into the lent run, as a slice: the checker tells the length of a slice, and not that of `&mut [u64; 9]`.
-fn store(words: [u64; 9], out: &mut [u64])
-    requires { ⌜ length (now out) ≡ 9 ⌝ }
-    ensures { λ r. ⌜ now (out .exit) ≡ words ⌝ }
+// Nine words into a lent run of nine; any other run is left as it was. It is lent as a slice: the checker tells the length of a slice, and not that
+// of `&mut [u64; 9]`.
+pub fn store(words: [u64; 9], out: &mut [u64])
+    ensures { λ r. ⌜ now (out .exit) ≡ stored words (now (out .entry)) ⌝ }
 {
+    if out.len() != 9 {
+        return;
+    }
     out[0] = words[0];
     out[1] = words[1];
     out[2] = words[2];
@@ -46,8 +48,8 @@ fn store(words: [u64; 9], out: &mut [u64])
     out[8] = words[8];
 }
 
-// What encoding said, whatever it has written.
-fn told_words(answer: EncodeResult) -> Refusal
+// What encoding said, whatever it has written: success as twice 0, a refusal as its number and the value that it carries.
+pub fn told_words(answer: EncodeResult) -> Refusal
     ensures { λ r. ⌜ ((words : List ℕ) → r ≡ refusalIn (encodeAnswer answer words)) ⌝ }
 {
     match answer {

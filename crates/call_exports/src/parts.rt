@@ -21,6 +21,13 @@ pub fn wide8(byte: u8) -> u64
     byte as u64
 }
 
+// 16 bits as a word.
+pub fn wide16(half: u16) -> u64
+    ensures { λ r. ⌜ r ≡ half ⌝ }
+{
+    half as u64
+}
+
 // 32 bits as a word.
 pub fn wide32(word: u32) -> u64
     ensures { λ r. ⌜ r ≡ word ⌝ }

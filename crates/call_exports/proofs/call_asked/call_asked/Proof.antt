@@ -4,24 +4,28 @@ use mathlib.Core.Path.{sym, ap, _∙_}
 use borrow.Author.Needs.{needs}
 use borrow.Author.Tests.{eq-eqb, ne-eqb}
 use Rattle.call_exports.specs.PlainWords.{differing}
-use Rattle.call_exports.specs.CallAsked.{askedAnswer}
-use Rattle.call_exports.proofs.CallAskedLaws.{asked-call, asked-wrong, asked-refused}
+use Rattle.call_exports.specs.CallWords.{callWords}
+use Rattle.call_exports.specs.CallAsked.{callAsked, askedAnswer}
+use Rattle.call_exports.proofs.CallAskedLaws.{own-words, other-words, none-found}
 use Rattle.call_exports.proofs.call_asked.call_asked.Statement.{statement}
 use Rattle.call_exports.proofs.call_asked.call_asked.Tie as tie
 
 returns : tie.Need-returns
+unfolding callAsked
 returns c =
-    asked-call _
+    own-words callWords _ _
     (sym (c .before .before .before .before .before .before .call-at .ensures) ∙ ap askedAnswer (c .before .before .before .before .function .given .1))
     (eq-eqb _ _ (sym (c .before .differing-bits .ensures ∙ ap (differing _) (c .before .before .call-words .ensures)) ∙ c .if1 .taken))
 
 returns-2 : tie.Need-returns-2
+unfolding callAsked
 returns-2 c =
-    asked-wrong _
+    other-words callWords _ _
     (sym (c .before .before .before .before .before .before .call-at .ensures) ∙ ap askedAnswer (c .before .before .before .before .function .given .1))
     (ne-eqb _ _ (λ q. c .if1 .left (c .before .differing-bits .ensures ∙ ap (differing _) (c .before .before .call-words .ensures) ∙ q)))
 
 pub call-asked-spec : {M : Type 1} → statement M
+unfolding callAsked
 call-asked-spec =
     tie.close
     (tie.spec
@@ -33,5 +37,5 @@ call-asked-spec =
     (λ c. search needs)
     returns
     returns-2
-    (λ c. asked-refused _ (sym (c .before .before .before .call-at .ensures) ∙ ap askedAnswer (c .before .tag .given .1)))
-    (λ c. asked-refused _ (sym (c .before .before .call-at .ensures) ∙ ap askedAnswer (c .enum-told .given .1))))
+    (λ c. none-found callWords _ _ (sym (c .before .before .before .call-at .ensures) ∙ ap askedAnswer (c .before .tag .given .1)))
+    (λ c. none-found callWords _ _ (sym (c .before .before .call-at .ensures) ∙ ap askedAnswer (c .enum-told .given .1))))
