@@ -1,0 +1,40 @@
+-- `original_exports::original_asked::original_asked` meets its contract. Assumes nothing.
+use mathlib.Core.Path.{sym, ap, _∙_}
+use borrow.Author.Needs.{needs}
+use borrow.Author.Tests.{eq-eqb, ne-eqb}
+use Rattle.call_exports.specs.PlainWords.{differing}
+use Rattle.call_exports.proofs.CallAskedLaws.{own-words, other-words, none-found}
+use Rattle.original_exports.specs.OriginalWords.{originalWords}
+use Rattle.original_exports.specs.OriginalAsked.{originalAsked, originalAskedAnswer}
+use Rattle.original_exports.proofs.original_asked.original_asked.Statement.{statement}
+use Rattle.original_exports.proofs.original_asked.original_asked.Tie as tie
+
+returns : tie.Need-returns
+unfolding originalAsked
+returns c =
+    own-words originalWords _ _
+    (sym (c .before .before .before .before .before .before .original-at .ensures) ∙ ap originalAskedAnswer (c .before .before .before .before .function .given .1))
+    (eq-eqb _ _ (sym (c .before .differing-bits .ensures ∙ ap (differing _) (c .before .before .original-words .ensures)) ∙ c .if1 .taken))
+
+returns-2 : tie.Need-returns-2
+unfolding originalAsked
+returns-2 c =
+    other-words originalWords _ _
+    (sym (c .before .before .before .before .before .before .original-at .ensures) ∙ ap originalAskedAnswer (c .before .before .before .before .function .given .1))
+    (ne-eqb _ _ (λ q. c .if1 .left (c .before .differing-bits .ensures ∙ ap (differing _) (c .before .before .original-words .ensures) ∙ q)))
+
+pub original-asked-spec : {M : Type 1} → statement M
+unfolding originalAsked
+original-asked-spec =
+    tie.close
+    (tie.spec
+    (λ c κs. search needs)
+    (λ c. search needs)
+    (λ c κs. search needs)
+    (λ c κs. search needs)
+    (λ c. search needs)
+    (λ c. search needs)
+    returns
+    returns-2
+    (λ c. none-found originalWords _ _ (sym (c .before .before .before .original-at .ensures) ∙ ap originalAskedAnswer (c .before .tag .given .1)))
+    (λ c. none-found originalWords _ _ (sym (c .before .before .original-at .ensures) ∙ ap originalAskedAnswer (c .enum-told .given .1))))

@@ -1,0 +1,2 @@
+pub mod OriginalAsked
+pub mod OriginalWords

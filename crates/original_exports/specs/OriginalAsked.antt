@@ -1,0 +1,44 @@
+-- The call in the original format that nine words stand for.
+use mathlib.Core.Bool.{cond, not}
+use mathlib.Core.List.{List}
+use Prim.Native.Nat.{ℕ}
+use lib.Dec.{eqb}
+use lib.IntN.{pos}
+use lib.ListN.{getD}
+use Rattle.refusals.specs.Answers.{Answer, accepted, refused, through, andThen}
+use Rattle.words.specs.declared.original_power_states.OriginalPowerState.{OriginalPowerState}
+use Rattle.call_exports.specs.PlainWords.{half, byte, ofParts}
+use Rattle.call_exports.specs.FromParts.{entryIn}
+use Rattle.call_exports.specs.CallAsked.{callAt}
+use Rattle.original_calls.specs.OriginalFunctions.{withState}
+use Rattle.original_calls.specs.OriginalCalls.{originalEncodeOf}
+use Rattle.original_calls.specs.declared.original_function.OriginalFunction.{OriginalFunction}
+use Rattle.original_calls.specs.declared.original_function.OriginalFunction.the-variants.{CpuSuspend}
+use Rattle.original_exports.specs.OriginalWords.{originalWords}
+use Rattle.original_exports.specs.declared.original_asked.OriginalAsked.{OriginalAsked}
+use Rattle.original_exports.specs.declared.original_asked.OriginalAsked.the-variants.{Call, UnknownTag, WrongPart}
+
+-- each part cut to its place
+abbrev pub originalStateIn : ℕ → ℕ → ℕ → OriginalPowerState
+originalStateIn down id level = record { «state_id» = half id; «power_down» = not (eqb down 0); level = byte level }
+
+-- a suspend has its entry behind the three parts; any other call has its parts where document 01's has them, a power state at the end.
+-- Refusal 1002: a tag that no call has
+unfoldable pub originalAt : List ℕ → ℕ → Answer OriginalFunction
+originalAt c tag =
+    cond (eqb tag 1)
+    (accepted (CpuSuspend (originalStateIn (getD c 1 0) (getD c 2 0) (getD c 3 0)) (entryIn (getD c 4 0) (getD c 5 0) (getD c 6 0))))
+    (through (λ f. withState f (originalStateIn (getD c 6 0) (getD c 7 0) (getD c 8 0))) (callAt c tag))
+
+-- the call that nine words stand for; refusal 1003: they are not its words
+unfoldable pub originalAsked : List ℕ → Answer OriginalFunction
+originalAsked c = andThen (originalAt c (getD c 0 0)) (λ f. ofParts c (originalWords f) (accepted f))
+
+abbrev pub originalAskedAnswer : OriginalAsked → Answer OriginalFunction
+originalAskedAnswer (Call f) = accepted f
+originalAskedAnswer (UnknownTag tag) = refused 1002 (pos tag)
+originalAskedAnswer WrongPart = refused 1003 (pos 0)
+
+-- the call that nine words stand for, written into a run
+abbrev pub encodeOriginalWords : List ℕ → List ℕ → Answer (List ℕ)
+encodeOriginalWords c run = andThen (originalAsked c) (λ f. originalEncodeOf f run)
