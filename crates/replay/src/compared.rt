@@ -1,13 +1,14 @@
 // An answer of the Rust against the codec's: its question is asked anew, and the whole record is compared.
 use crate::operations::answer;
 use crate::records::WRONG;
+use crate::records::is_to_registers;
 use crate::records::nine_in;
 use crate::sweeps::SWEEP;
 use crate::sweeps::is_digest_same;
 use call_exports::plain_words::differing_bits;
 
 // Whether the answer to an operation writes the word at a place: a refusal writes its number and what it carries; the decoders and the readers
-// write nine words; encode writes four registers, every other operation one.
+// write nine words; encode in either format writes four registers, every other operation one.
 fn is_written(op: u64, refused: bool, place: usize) -> bool {
     if 14 <= place {
         return true;
@@ -15,8 +16,8 @@ fn is_written(op: u64, refused: bool, place: usize) -> bool {
     if refused || place == 0 {
         return false;
     }
-    if op == 1 || op == 2 || 48 <= op {
-        place == 10 || (op == 1 && 10 < place)
+    if is_to_registers(op) {
+        place == 10 || ((op == 1 || op == 5) && 10 < place)
     } else {
         place < 10
     }

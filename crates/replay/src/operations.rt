@@ -1,9 +1,13 @@
-// The answer to a record, an arm for each operation. 0 to 3 are the calls'. 16 to 31 read one word, 32 and 33 make an MPIDR of the low
-// bytes of the registers. 48 to 62 write one word, 63 turns a refusal into an error code, 64 and 65 are the entry point's two accessors.
+// The answer to a record, an arm for each operation. 0 to 6 are the calls', 4 to 6 those of Change 1, with the original power state. 16 to 31
+// read one word, 32 and 33 make an MPIDR of the low bytes of the registers, 34 reads an original power state. 48 to 62 write one word, 63 turns
+// a refusal into an error code, 64 and 65 are the entry point's two accessors, 66 writes an original power state.
+use crate::calls::decode_original_record;
 use crate::calls::decode_record;
 use crate::calls::decode_smccc_record;
+use crate::calls::encode_original_record;
 use crate::calls::encode_record;
 use crate::calls::function_id_record;
+use crate::calls::original_function_id_record;
 use crate::readers;
 use crate::records::UNKNOWN_OPERATION;
 use crate::records::given;
@@ -19,6 +23,7 @@ use function_ids::FunctionId;
 use words::ArchitecturalResetType;
 use words::HwState;
 use words::Mpidr;
+use words::OriginalPowerState;
 use words::PowerState;
 use words::PsciFeature;
 use words::ResetType;
@@ -42,6 +47,9 @@ pub(crate) fn answer(w: [u64; 16]) -> [u64; 16] {
         1 => encode_record(w),
         2 => function_id_record(w),
         3 => decode_smccc_record(w),
+        4 => decode_original_record(w),
+        5 => encode_original_record(w),
+        6 => original_function_id_record(w),
         16 => readers::function_id(w, FunctionId::try_from_u32(word)),
         17 => readers::return_code(w, ReturnCode::try_from_i32(signs::signed_32(word))),
         18 => readers::error_code(w, ErrorCode::try_from_i32(signs::signed_32(word))),
@@ -60,6 +68,7 @@ pub(crate) fn answer(w: [u64; 16]) -> [u64; 16] {
         31 => readers::suspend_mode(w, SuspendMode::try_from_u32(word)),
         32 => given(w, mpidr_words(from_aff3210(w))),
         33 => given(w, mpidr_words(from_aff210(w))),
+        34 => readers::original_power_state(w, OriginalPowerState::try_from_u32(word)),
         48 => writers::function_id(w),
         49 => writers::return_code(w),
         50 => writers::error_code(w),
@@ -78,6 +87,7 @@ pub(crate) fn answer(w: [u64; 16]) -> [u64; 16] {
         63 => writers::error(w),
         64 => writers::entry_address(w),
         65 => writers::entry_context(w),
+        66 => writers::original_power_state(w),
         op => turned_back(w, UNKNOWN_OPERATION, op),
     }
 }

@@ -6,6 +6,7 @@ use crate::values::feature_words;
 use crate::values::function_id_words;
 use crate::values::hw_state_words;
 use crate::values::mpidr_words;
+use crate::values::original_power_state_words;
 use crate::values::place_words;
 use crate::values::power_state_words;
 use crate::values::reset_type_words;
@@ -18,6 +19,7 @@ use function_ids::FunctionIdResult;
 use words::ArchitecturalResetTypeResult;
 use words::HwStateResult;
 use words::MpidrResult;
+use words::OriginalPowerStateResult;
 use words::PowerStateResult;
 use words::PsciFeatureResult;
 use words::ResetTypeResult;
@@ -57,6 +59,13 @@ pub(crate) fn power_state(w: [u64; 16], read: PowerStateResult) -> [u64; 16] {
     match read {
         PowerStateResult::Ok(value) => given(w, power_state_words(value)),
         PowerStateResult::Err(error) => refused(w, error),
+    }
+}
+
+pub(crate) fn original_power_state(w: [u64; 16], read: OriginalPowerStateResult) -> [u64; 16] {
+    match read {
+        OriginalPowerStateResult::Ok(value) => given(w, original_power_state_words(value)),
+        OriginalPowerStateResult::Err(error) => refused(w, error),
     }
 }
 

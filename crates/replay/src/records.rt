@@ -5,13 +5,19 @@ use call_exports::plain_words::differing_bits;
 use refusals::Error;
 use refusals::WordResult;
 
-// Refusals of the record itself, beside document 01's: an operation that there is not, a tag that no call has, and a part that has no room
+// Refusals of the record itself, beside the papers': an operation that there is not, a tag that no call has, and a part that has no room
 // in its place.
 pub(crate) const UNKNOWN_OPERATION: u64 = 1001;
 
 pub(crate) const UNKNOWN_TAG: u64 = 1002;
 
 pub(crate) const WRONG_PART: u64 = 1003;
+
+// Whether the answer to an operation is registers: encode writes four, a function number or a single word one. The decoders and the readers
+// give nine words.
+pub(crate) fn is_to_registers(op: u64) -> bool {
+    op == 1 || op == 2 || op == 5 || op == 6 || 48 <= op
+}
 
 // Turned in a word that an answer must write, so that it cannot be right by chance.
 pub(crate) const WRONG: u64 = 0xa5a5_5a5a_c3c3_3c3c;

@@ -2,16 +2,22 @@
 use crate::operations::answer;
 use crate::records::UNKNOWN_TAG;
 use crate::records::WRONG_PART;
+use crate::records::is_to_registers;
 use crate::records::nine_in;
 use call_exports::call_asked::Asked;
 use call_exports::call_asked::call_asked;
 use call_log::big_endian::byte_at;
 use encode::EncodeResult;
+use original_exports::original_asked::OriginalAsked;
+use original_exports::original_asked::original_asked;
 
-// Operations that only a labelled record has: a heading, which is a label alone; and a call written to a lent run, whose length is word 15.
+// Operations that only a labelled record has: a heading, which is a label alone; and a call written to a lent run, whose length is word 15, by
+// document 01 or with an original power state.
 const HEADING: u64 = 1000;
 
 const LENT: u64 = 1001;
+
+const LENT_ORIGINAL: u64 = 1002;
 
 // What a lent run holds before a call is written to it.
 const PATTERN: u64 = 0xa5a5;
@@ -50,11 +56,19 @@ fn show_answer(w: [u64; 16]) {
     } else {
         show_refusal(w[14], w[15]);
     }
-    let op = w[0];
-    if op == 1 || op == 2 || 48 <= op {
+    if is_to_registers(w[0]) {
         show_words(w, 10, 14);
     } else {
         show_words(w, 1, 10);
+    }
+}
+
+fn show_encoded(encoded: EncodeResult) {
+    match encoded {
+        EncodeResult::Ok => {
+            io::write_all(1, b": accepted");
+        }
+        EncodeResult::Err(error) => show_refusal(error.number(), error.value()),
     }
 }
 
@@ -63,14 +77,24 @@ fn show_lent(w: [u64; 16]) {
     let mut run = [PATTERN; 16];
     let length = (w[15] % 6) as usize;
     match call_asked(nine_in(w)) {
-        Asked::Call(function) => match encode::encode(function, &mut run[..length]) {
-            EncodeResult::Ok => {
-                io::write_all(1, b": accepted");
-            }
-            EncodeResult::Err(error) => show_refusal(error.number(), error.value()),
-        },
+        Asked::Call(function) => show_encoded(encode::encode(function, &mut run[..length])),
         Asked::UnknownTag(tag) => show_refusal(UNKNOWN_TAG, tag),
         Asked::WrongPart => show_refusal(WRONG_PART, 0),
+    }
+    show_words(run, 0, 5);
+}
+
+// The same with an original power state.
+fn show_lent_original(w: [u64; 16]) {
+    let mut run = [PATTERN; 16];
+    let length = (w[15] % 6) as usize;
+    match original_asked(nine_in(w)) {
+        OriginalAsked::Call(function) => show_encoded(original_calls::encode_original(
+            function,
+            &mut run[..length],
+        )),
+        OriginalAsked::UnknownTag(tag) => show_refusal(UNKNOWN_TAG, tag),
+        OriginalAsked::WrongPart => show_refusal(WRONG_PART, 0),
     }
     show_words(run, 0, 5);
 }
@@ -79,6 +103,8 @@ pub(crate) fn show_case(w: [u64; 16]) {
     let op = w[0];
     if op == LENT {
         show_lent(w);
+    } else if op == LENT_ORIGINAL {
+        show_lent_original(w);
     } else if op != HEADING {
         show_answer(answer(w));
     }

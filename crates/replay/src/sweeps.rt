@@ -9,7 +9,9 @@ const MAX_COUNT: u64 = 65536;
 // Word 1 is a reader's or a decoder's operation, word 2 a shift, word 3 a count. A sweep that says something else counts as one that differs.
 fn is_sound(w: [u64; 16]) -> bool {
     let op = w[1];
-    (op == 0 || op == 3 || (16 <= op && op <= 31)) && w[2] < 64 && w[3] <= MAX_COUNT
+    let is_decoder = op == 0 || op == 3 || op == 4;
+    let is_reader = (16 <= op && op <= 31) || op == 34;
+    (is_decoder || is_reader) && w[2] < 64 && w[3] <= MAX_COUNT
 }
 
 fn folded_word(d: u64, word: u64) -> u64 {

@@ -21,11 +21,13 @@ use refusals::Error;
 use words::EntryPoint;
 use words::HwState;
 use words::Mpidr;
+use words::OriginalPowerState;
 use words::PowerState;
 use words::PsciFeature;
 use words::ResetType;
 use words::SuspendMode;
 use words::Version;
+use words::flag_word;
 
 fn low16(part: u64) -> u16 {
     (part % 0x1_0000) as u16
@@ -79,6 +81,15 @@ pub(crate) fn version_words(version: Version) -> [u64; 9] {
 
 pub(crate) fn power_state_words(state: PowerState) -> [u64; 9] {
     three(0, down(state), state_id(state), 0)
+}
+
+pub(crate) fn original_power_state_words(state: OriginalPowerState) -> [u64; 9] {
+    three(
+        0,
+        flag_word(state.power_down),
+        state.state_id as u64,
+        state.level as u64,
+    )
 }
 
 pub(crate) fn mpidr_words(mpidr: Mpidr) -> [u64; 9] {
@@ -150,6 +161,14 @@ pub(crate) fn version_in(major: u64, minor: u64) -> Version {
     }
 }
 
+pub(crate) fn original_power_state_in(down: u64, id: u64, level: u64) -> OriginalPowerState {
+    OriginalPowerState {
+        state_id: low16(id),
+        power_down: down != 0,
+        level: low8(level),
+    }
+}
+
 // A number that no refusal has stands for 14, whose words are others.
 pub(crate) fn error_in(number: u64, value: u64) -> Error {
     match number {
@@ -169,6 +188,8 @@ pub(crate) fn error_in(number: u64, value: u64) -> Error {
         15 => Error::InvalidStateId(low32(value)),
         16 => Error::InvalidMajorVersion(low16(value)),
         17 => Error::WrongLength(value as usize),
+        26 => Error::InvalidOriginalPowerState(low32(value)),
+        27 => Error::InvalidPowerLevel(low8(value)),
         31 => Error::InvalidVendorType(low32(value)),
         _ => Error::MixedCallForms,
     }

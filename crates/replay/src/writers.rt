@@ -13,6 +13,8 @@ use crate::values::function_id_words;
 use crate::values::hw_state_at;
 use crate::values::hw_state_words;
 use crate::values::mpidr_words;
+use crate::values::original_power_state_in;
+use crate::values::original_power_state_words;
 use crate::values::place_words;
 use crate::values::power_state_words;
 use crate::values::reset_type_words;
@@ -75,6 +77,11 @@ pub(crate) fn version(w: [u64; 16]) -> [u64; 16] {
 pub(crate) fn power_state(w: [u64; 16]) -> [u64; 16] {
     let value = power_state_in(w[2], w[3]);
     word_answer(w, power_state_words(value), value.to_u32())
+}
+
+pub(crate) fn original_power_state(w: [u64; 16]) -> [u64; 16] {
+    let value = original_power_state_in(w[2], w[3], w[4]);
+    word_answer(w, original_power_state_words(value), value.to_u32())
 }
 
 pub(crate) fn mpidr_32(w: [u64; 16]) -> [u64; 16] {

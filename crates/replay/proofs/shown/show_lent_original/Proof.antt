@@ -1,0 +1,25 @@
+-- `replay::shown::show_lent_original` is safe: the lent part is as long as asked. Assumes nothing.
+use lib.ListN.{length-take}
+use native.Mathlib.Omega.{arith}
+use borrow.Author.Needs.{needs}
+use Rattle.replay.proofs.shown.show_lent_original.Statement.{statement}
+use Rattle.replay.proofs.shown.show_lent_original.Tie as tie
+
+pub show-lent-original-spec : {M : Type 1} → statement M
+show-lent-original-spec =
+    tie.close
+    (tie.spec
+    (λ c. search needs)
+    (λ c κs. search needs)
+    (λ c κs. search needs)
+    (λ c. search needs)
+    (λ c. search needs)
+    (λ c. simp length-take (omega arith))
+    (λ c κs. search needs)
+    (λ c κs. search needs)
+    (λ c. search needs)
+    (λ c κs. search needs)
+    (λ c. search needs)
+    (λ c κs. search needs)
+    (λ c κs. search needs)
+    (λ c. search needs))
