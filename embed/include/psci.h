@@ -6,8 +6,14 @@
  * call. Every function is proved to give what its definition says, for all contents of what it is lent; docs/PROMISES.md leads to the
  * definitions. docs/EMBEDDING.md says how to build and link the archives:
  *
- *   libcall_exports.a   psci_decode, psci_decode_smccc, psci_encode, psci_recode, psci_recode_smccc
- *   libline_exports.a   psci_line
+ *   libcall_exports.a      psci_decode, psci_decode_smccc, psci_encode, psci_recode, psci_recode_smccc
+ *   libline_exports.a      psci_line
+ *   liboriginal_exports.a  psci_decode_original, psci_encode_original, psci_recode_original
+ *
+ * DEN0022 has two formats of a power state, the extended and the original one, and a board is set to one of them. Suspend, residency and count are
+ * the calls that have a power state. The three functions of liboriginal_exports.a belong together, for boards set to the original format; all others
+ * belong together, for boards set to the extended format. Neither four registers nor nine words say which format they are of: those of one format
+ * must not be handed to a function of the other, which may refuse them or take them for another call. A line is of the extended format alone.
  *
  * What a caller owes: each pointer is to as many words or bytes as its parameter says, aligned for them; nothing else writes to them during the
  * call; and no parameter that is written overlaps another. What the numbers are is never a caller's duty: every input gets an answer.
@@ -56,17 +62,19 @@ enum psci_refusal_number {
 
     /* decode, recode; in this order: 1 for an unknown number, 5, then the fields by register */
     PSCI_UNRECOGNISED_FUNCTION_ID = 1,         /* carries the low half of r0, or the feature asked about */
-    PSCI_INVALID_POWER_STATE = 2,              /* the power state */
+    PSCI_INVALID_POWER_STATE = 2,              /* the power state: in the extended format alone */
     PSCI_INVALID_MPIDR_32 = 3,                 /* the low half of the register */
     PSCI_INVALID_MPIDR_64 = 4,                 /* the register */
     PSCI_INVALID_LOWER_AFFINITY_LEVEL = 5,     /* the level */
     PSCI_UNRECOGNISED_SYSTEM_OFF2_TYPE = 6,    /* the type */
     PSCI_UNRECOGNISED_SYSTEM_RESET2_TYPE = 7,  /* the type */
     PSCI_UNRECOGNISED_SUSPEND_MODE = 8,        /* the mode */
+    PSCI_INVALID_ORIGINAL_POWER_STATE = 26,    /* the power state: in the original format alone, in the place of 2 */
 
     /* encode; 1002 and 1003 come first, since such words are no call */
     PSCI_MIXED_CALL_FORMS = 14,                /* 0: a CPU on whose MPIDR and entry differ in form */
-    PSCI_INVALID_STATE_ID = 15,                /* the state ID, which is above 0x0fffffff */
+    PSCI_INVALID_STATE_ID = 15,                /* the state ID, which is above 0x0fffffff: in the extended format alone */
+    PSCI_INVALID_POWER_LEVEL = 27,             /* the level, which is above 3: in the original format alone, in the place of 15 */
     PSCI_INVALID_VENDOR_TYPE = 31,             /* the vendor's reset type, which is above 0x7fffffff */
     PSCI_UNKNOWN_TAG = 1002,                   /* the tag */
     PSCI_WRONG_PART = 1003,                    /* 0: a part that has no room in its place, or is not 0 where there is none */
@@ -129,6 +137,11 @@ enum psci_part {
     PSCI_STAT_COUNT_TARGET_CPU = 1,         /* MPIDR */
     PSCI_STAT_COUNT_STATE = 6,              /* power state */
 
+    /* the same of a suspend in the original format, whose power state is one part longer; every other field, the power states of residency and
+     * count too, begins where it does above */
+    PSCI_ORIGINAL_CPU_SUSPEND_STATE = 1, /* original power state */
+    PSCI_ORIGINAL_CPU_SUSPEND_ENTRY = 4, /* entry */
+
     /* the parts of a field, counted from where it begins: call[PSCI_CPU_ON_ENTRY + PSCI_ENTRY_ADDRESS]; a form is 0 in a 32-bit call, whose
      * words have 32 bits, and 1 in a 64-bit call */
     PSCI_MPIDR_HAS_AFF3 = 0, /* 1 in a 64-bit call; 0 in a 32-bit call, and then affinity 3 is 0 */
@@ -137,8 +150,14 @@ enum psci_part {
     PSCI_MPIDR_AFF1 = 3,
     PSCI_MPIDR_AFF0 = 4,
 
+    /* a power state of the extended format */
     PSCI_POWER_STATE_DOWN = 0, /* 0 standby or retention, 1 power down */
     PSCI_POWER_STATE_ID = 1,   /* 32 bits; decode gives at most 0x0fffffff */
+
+    /* one of the original format */
+    PSCI_ORIGINAL_STATE_DOWN = 0,  /* 0 standby or retention, 1 power down */
+    PSCI_ORIGINAL_STATE_ID = 1,    /* 16 bits */
+    PSCI_ORIGINAL_STATE_LEVEL = 2, /* 8 bits; decode gives at most 3 */
 
     PSCI_ENTRY_FORM = 0,
     PSCI_ENTRY_ADDRESS = 1,
@@ -218,6 +237,21 @@ struct psci_refusal psci_recode(const uint64_t regs[PSCI_REGISTERS], uint64_t ou
 /* The same by psci_decode_smccc: the second word of memory protect is 0 or 1 by the low half of r1. Refused, 1 to 8: out is left as it was. */
 struct psci_refusal psci_recode_smccc(const uint64_t regs[PSCI_REGISTERS], uint64_t out[PSCI_REGISTERS]);
 
+/* For boards set to the original format, as the two below. The call that the four registers make. Of the power state of a suspend, residency or
+ * count bits 0 to 15 are the state ID, bit 16 power down, and bits 24 and 25 the level; a bit set elsewhere in it is 26. In residency and count a
+ * refused MPIDR comes first. Every other call, and every other refusal, is psci_decode's: memory protect by all of r1. Accepted: all nine words of
+ * call are written. Refused, 1, 3 to 8 or 26: call is left as it was. */
+struct psci_refusal psci_decode_original(const uint64_t regs[PSCI_REGISTERS], uint64_t call[PSCI_CALL_WORDS]);
+
+/* The four words of a call of the original format: its function number, its fields in their registers, all other bits zero. Accepted: all four
+ * words of out are written. Refused, 1002, 1003, 14, 27 or 31: out is left as it was. Words that psci_decode_original gave were never refused in any
+ * run; that they can't be is not proved of the nine words. */
+struct psci_refusal psci_encode_original(const uint64_t call[PSCI_CALL_WORDS], uint64_t out[PSCI_REGISTERS]);
+
+/* Decodes four registers by psci_decode_original and encodes the call by psci_encode_original. Accepted: all four words of out are written.
+ * Refused, 1, 3 to 8 or 26: out is left as it was. It is proved to refuse what psci_decode_original refuses and nothing else. */
+struct psci_refusal psci_recode_original(const uint64_t regs[PSCI_REGISTERS], uint64_t out[PSCI_REGISTERS]);
+
 /* The line of the record of that number with those registers: the number, then "ok" and the four words that psci_recode_smccc gives, or "no", the
  * refusal's number and what it carries; words and values as 16 hexadecimal digits, one space between all, a line feed at the end. Accepted:
  * value bytes at the front of out are the line, the rest of out is left as it was. Refused, PSCI_BAD_NUMBER: out is left as it was. */
@@ -232,6 +266,10 @@ PSCI_ASSERT(offsetof(struct psci_refusal, number) == 0 && offsetof(struct psci_r
 PSCI_ASSERT(sizeof(struct psci_written) == 16 && PSCI_ALIGNMENT(struct psci_written) == 8, "what line says is two words");
 PSCI_ASSERT(offsetof(struct psci_written, number) == 0 && offsetof(struct psci_written, value) == 8, "the number, then the value");
 PSCI_ASSERT(PSCI_CPU_ON_ENTRY + PSCI_ENTRY_CONTEXT == PSCI_CALL_WORDS - 1, "the longest call fills its words");
+PSCI_ASSERT(PSCI_STAT_RESIDENCY_STATE + PSCI_ORIGINAL_STATE_LEVEL == PSCI_CALL_WORDS - 1, "so does a residency of the original format");
+PSCI_ASSERT(PSCI_STAT_COUNT_STATE + PSCI_ORIGINAL_STATE_LEVEL == PSCI_CALL_WORDS - 1, "so does a count of the original format");
+PSCI_ASSERT(PSCI_ORIGINAL_CPU_SUSPEND_ENTRY == PSCI_CPU_SUSPEND_ENTRY + 1, "a power state of the original format is a word longer");
+PSCI_ASSERT(PSCI_ORIGINAL_CPU_SUSPEND_STATE + PSCI_ORIGINAL_STATE_LEVEL + 1 == PSCI_ORIGINAL_CPU_SUSPEND_ENTRY, "the level stands before the entry");
 PSCI_ASSERT(PSCI_SYSTEM_OFF2_TYPE + 1 == PSCI_SYSTEM_OFF2_COOKIE, "the off type is one word, before the cookie");
 
 #ifdef __cplusplus

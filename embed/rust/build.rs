@@ -9,7 +9,7 @@ fn stop(text: String) -> ! {
 /// Where the repository has the archives for a target, and what builds them. Targets without an operating system are compiled for strict alignment.
 fn of_the_repository(processor: &str, system: &str) -> (&'static str, &'static str) {
     match (processor, system) {
-        ("x86_64", _) => ("../../target/staticlib", "rt staticlib call_exports && rt staticlib line_exports"),
+        ("x86_64", _) => ("../../target/staticlib", "rt staticlib call_exports && rt staticlib line_exports && rt staticlib original_exports"),
         ("aarch64", "none") => ("../../target/aarch64/strict-align", "embed/aarch64"),
         ("aarch64", _) => ("../../target/aarch64", "embed/aarch64"),
         (other, _) => stop(format!("there are no archives for {other}: set PSCI_LIB_DIR")),
@@ -28,7 +28,7 @@ fn main() {
         }
     };
     println!("cargo:rustc-link-search=native={dir}");
-    for archive in ["call_exports", "line_exports"] {
+    for archive in ["call_exports", "line_exports", "original_exports"] {
         let file = format!("{dir}/lib{archive}.a");
         if !Path::new(&file).exists() {
             stop(format!("{file} is missing: {hint}"));

@@ -1,6 +1,6 @@
-/* names: every name of psci.h, on values put down from document 01, for refusal 31 and memory protect by Change 2 from document 02: each call by
- * its tag and parts, each function by its place, each refusal. Prints how many cases there were; a case that fails is named on standard error.
- * In C11 and in C++11. */
+/* names: every name of psci.h, on values put down from document 01, for refusal 31, memory protect by Change 2 and the original format from document
+ * 02: each call by its tag and parts, each function by its place, each refusal. Prints how many cases there were; a case that fails is named on
+ * standard error. In C11 and in C++11. */
 #include <inttypes.h>
 #include <stdio.h>
 #include <string.h>
@@ -14,11 +14,13 @@ struct part {
 };
 
 /* Registers of which nothing is ignored, and the call that they make. */
-static const struct {
+struct example {
     uint64_t regs[PSCI_REGISTERS];
     uint64_t tag;
     struct part parts[PSCI_CALL_WORDS];
-} calls[] = {
+};
+
+static const struct example calls[] = {
     {{0x84000000, 0, 0, 0}, PSCI_TAG_VERSION, {{0, 0}}},
     {{0x84000001, 0x40000002, 0x80000, 9},
      PSCI_TAG_CPU_SUSPEND,
@@ -101,6 +103,31 @@ static const struct {
      {{PSCI_STAT_COUNT_TARGET_CPU + PSCI_MPIDR_HAS_AFF3, 1}, {PSCI_STAT_COUNT_STATE + PSCI_POWER_STATE_ID, 2}}},
 };
 
+/* The three calls that the original format has for itself. */
+static const struct example originals[] = {
+    {{0xc4000001, 0x03010002, 0x80000, 9},
+     PSCI_TAG_CPU_SUSPEND,
+     {{PSCI_ORIGINAL_CPU_SUSPEND_STATE + PSCI_ORIGINAL_STATE_DOWN, 1},
+      {PSCI_ORIGINAL_CPU_SUSPEND_STATE + PSCI_ORIGINAL_STATE_ID, 2},
+      {PSCI_ORIGINAL_CPU_SUSPEND_STATE + PSCI_ORIGINAL_STATE_LEVEL, 3},
+      {PSCI_ORIGINAL_CPU_SUSPEND_ENTRY + PSCI_ENTRY_FORM, 1},
+      {PSCI_ORIGINAL_CPU_SUSPEND_ENTRY + PSCI_ENTRY_ADDRESS, 0x80000},
+      {PSCI_ORIGINAL_CPU_SUSPEND_ENTRY + PSCI_ENTRY_CONTEXT, 9}}},
+    {{0x84000010, 0x030201, 0x02010004, 0},
+     PSCI_TAG_STAT_RESIDENCY,
+     {{PSCI_STAT_RESIDENCY_TARGET_CPU + PSCI_MPIDR_AFF2, 3},
+      {PSCI_STAT_RESIDENCY_TARGET_CPU + PSCI_MPIDR_AFF1, 2},
+      {PSCI_STAT_RESIDENCY_TARGET_CPU + PSCI_MPIDR_AFF0, 1},
+      {PSCI_STAT_RESIDENCY_STATE + PSCI_ORIGINAL_STATE_DOWN, 1},
+      {PSCI_STAT_RESIDENCY_STATE + PSCI_ORIGINAL_STATE_ID, 4},
+      {PSCI_STAT_RESIDENCY_STATE + PSCI_ORIGINAL_STATE_LEVEL, 2}}},
+    {{0xc4000011, 0, 0x01000004, 0},
+     PSCI_TAG_STAT_COUNT,
+     {{PSCI_STAT_COUNT_TARGET_CPU + PSCI_MPIDR_HAS_AFF3, 1},
+      {PSCI_STAT_COUNT_STATE + PSCI_ORIGINAL_STATE_ID, 4},
+      {PSCI_STAT_COUNT_STATE + PSCI_ORIGINAL_STATE_LEVEL, 1}}},
+};
+
 /* A function that can be asked about: its number and its place. */
 static const struct {
     uint64_t number;
@@ -181,6 +208,7 @@ static int is(struct psci_refusal refusal, uint64_t number, uint64_t carried) {
 }
 
 typedef struct psci_refusal (*decoder)(const uint64_t regs[PSCI_REGISTERS], uint64_t call[PSCI_CALL_WORDS]);
+typedef struct psci_refusal (*encoder)(const uint64_t call[PSCI_CALL_WORDS], uint64_t out[PSCI_REGISTERS]);
 typedef struct psci_refusal (*recoder)(const uint64_t regs[PSCI_REGISTERS], uint64_t out[PSCI_REGISTERS]);
 
 /* The registers decode to these nine words. */
@@ -197,12 +225,22 @@ static int rewrites(recoder recode, const uint64_t regs[PSCI_REGISTERS], const u
     return is(recode(regs, words), PSCI_ACCEPTED, 0) && memcmp(words, out, sizeof words) == 0;
 }
 
-/* The registers decode to these nine words by both decoders, the words encode to the registers, and both write the registers again. */
-static int same(const uint64_t regs[PSCI_REGISTERS], const uint64_t call[PSCI_CALL_WORDS]) {
+/* The nine words encode to these registers. */
+static int encodes(encoder encode, const uint64_t call[PSCI_CALL_WORDS], const uint64_t regs[PSCI_REGISTERS]) {
     uint64_t words[PSCI_REGISTERS];
     memset(words, 0xa5, sizeof words);
-    return decodes(psci_decode, regs, call) && decodes(psci_decode_smccc, regs, call) && is(psci_encode(call, words), PSCI_ACCEPTED, 0) &&
-           memcmp(words, regs, sizeof words) == 0 && rewrites(psci_recode, regs, regs) && rewrites(psci_recode_smccc, regs, regs);
+    return is(encode(call, words), PSCI_ACCEPTED, 0) && memcmp(words, regs, sizeof words) == 0;
+}
+
+/* The registers decode to these nine words by psci_decode and psci_decode_smccc, the words encode to the registers, and both write the registers again. */
+static int same(const uint64_t regs[PSCI_REGISTERS], const uint64_t call[PSCI_CALL_WORDS]) {
+    return decodes(psci_decode, regs, call) && decodes(psci_decode_smccc, regs, call) && encodes(psci_encode, call, regs) &&
+           rewrites(psci_recode, regs, regs) && rewrites(psci_recode_smccc, regs, regs);
+}
+
+/* The same in the original format. */
+static int same_original(const uint64_t regs[PSCI_REGISTERS], const uint64_t call[PSCI_CALL_WORDS]) {
+    return decodes(psci_decode_original, regs, call) && encodes(psci_encode_original, call, regs) && rewrites(psci_recode_original, regs, regs);
 }
 
 /* Memory protect by one decoder: enabled or not, and written so. */
@@ -215,6 +253,14 @@ static int protects(decoder decode, recoder recode, uint64_t r1, uint64_t enable
     return decodes(decode, regs, call) && rewrites(recode, regs, out);
 }
 
+/* The nine words of an example. */
+static void lay_out(const struct example *example, uint64_t call[PSCI_CALL_WORDS]) {
+    memset(call, 0, PSCI_CALL_WORDS * sizeof call[0]);
+    call[0] = example->tag;
+    for (const struct part *part = example->parts; part < example->parts + PSCI_CALL_WORDS && part->place != 0; part++)
+        call[part->place] = part->value;
+}
+
 #define COUNT(list) (sizeof(list) / sizeof(list)[0])
 
 int main(void) {
@@ -222,11 +268,12 @@ int main(void) {
     uint8_t line[PSCI_LINE_BYTES];
 
     for (size_t i = 0; i < COUNT(calls); i++) {
-        memset(call, 0, sizeof call);
-        call[0] = calls[i].tag;
-        for (const struct part *part = calls[i].parts; part < calls[i].parts + PSCI_CALL_WORDS && part->place != 0; part++)
-            call[part->place] = part->value;
+        lay_out(&calls[i], call);
         check(same(calls[i].regs, call), "call", calls[i].regs[0]);
+    }
+    for (size_t i = 0; i < COUNT(originals); i++) {
+        lay_out(&originals[i], call);
+        check(same_original(originals[i].regs, call), "call of the original format", originals[i].regs[0]);
     }
     for (size_t i = 0; i < COUNT(functions); i++) {
         const uint64_t regs[PSCI_REGISTERS] = {0x8400000a, functions[i].number, 0, 0};
@@ -247,6 +294,12 @@ int main(void) {
     }
     for (size_t i = 0; i < COUNT(unwritten); i++)
         check(is(psci_encode(unwritten[i].call, words), unwritten[i].number, unwritten[i].carried), "refusal", unwritten[i].number);
+
+    const uint64_t elsewhere[PSCI_REGISTERS] = {0x84000001, 0xffffffff00020000, 0, 0};
+    check(is(psci_decode_original(elsewhere, call), PSCI_INVALID_ORIGINAL_POWER_STATE, 0x20000), "refusal of the original format", 26);
+    check(is(psci_recode_original(elsewhere, words), PSCI_INVALID_ORIGINAL_POWER_STATE, 0x20000), "refusal of its recode", 26);
+    const uint64_t above_3[PSCI_CALL_WORDS] = {PSCI_TAG_CPU_SUSPEND, 0, 2, 4, 0, 0, 0, 0, 0};
+    check(is(psci_encode_original(above_3, words), PSCI_INVALID_POWER_LEVEL, 4), "refusal of the original format", 27);
 
     memset(call, 0, sizeof call);
     call[0] = PSCI_TAG_SYSTEM_OFF2;

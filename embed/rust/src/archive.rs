@@ -33,6 +33,9 @@ extern "C" {
     fn psci_encode(call: &Words, out: &mut [u64; 4]) -> Refusal;
     fn psci_recode(regs: &[u64; 4], out: &mut [u64; 4]) -> Refusal;
     fn psci_recode_smccc(regs: &[u64; 4], out: &mut [u64; 4]) -> Refusal;
+    fn psci_decode_original(regs: &[u64; 4], call: &mut Words) -> Refusal;
+    fn psci_encode_original(call: &Words, out: &mut [u64; 4]) -> Refusal;
+    fn psci_recode_original(regs: &[u64; 4], out: &mut [u64; 4]) -> Refusal;
     fn psci_line(number: usize, regs: &[u64; 4], out: &mut [u8; 80]) -> Written;
 }
 
@@ -75,6 +78,26 @@ pub fn recode(regs: &[u64; 4], out: &mut [u64; 4]) -> Result<(), Error> {
 pub fn recode_smccc(regs: &[u64; 4], out: &mut [u64; 4]) -> Result<(), Error> {
     // SAFETY: as in `decode`.
     told(unsafe { psci_recode_smccc(regs, out) })
+}
+
+/// The nine words of the call that four registers make in the original format.
+pub fn decode_original(regs: &[u64; 4]) -> Result<Words, Error> {
+    let mut call = [0; 9];
+    // SAFETY: as in `decode`.
+    told(unsafe { psci_decode_original(regs, &mut call) })?;
+    Ok(call)
+}
+
+/// Writes the four words of a call of the original format; a refusal leaves `out` as it was.
+pub fn encode_original(call: &Words, out: &mut [u64; 4]) -> Result<(), Error> {
+    // SAFETY: as in `decode`.
+    told(unsafe { psci_encode_original(call, out) })
+}
+
+/// Writes the four words of the call that four registers make in the original format; a refusal leaves `out` as it was.
+pub fn recode_original(regs: &[u64; 4], out: &mut [u64; 4]) -> Result<(), Error> {
+    // SAFETY: as in `decode`.
+    told(unsafe { psci_recode_original(regs, out) })
 }
 
 /// Writes a record's line and gives its length, or what the refusal carries; a refusal leaves `out` as it was.

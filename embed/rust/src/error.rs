@@ -25,6 +25,10 @@ pub enum Error {
     InvalidStateId(u32),
     /// Refusal 16: a major version above 0x7fff. arm-psci panics.
     InvalidMajorVersion(u16),
+    /// Refusal 26: a power state of the original format with a bit set outside its fields; the word. In the place of `InvalidPowerState`.
+    InvalidOriginalPowerState(u32),
+    /// Refusal 27: a level above 3 in a power state of the original format. In the place of `InvalidStateId`.
+    InvalidPowerLevel(u8),
     /// Refusal 31: a vendor's reset type above 0x7fff_ffff. arm-psci writes it as the type without bit 31.
     InvalidVendorType(u32),
     /// A refusal of the archives that this crate has no name for, with its value. None of the archives of this repository gives one.
@@ -49,6 +53,8 @@ impl Error {
             8 => Self::UnrecognisedSuspendMode(low),
             14 => Self::MixedCallForms,
             15 => Self::InvalidStateId(low),
+            26 => Self::InvalidOriginalPowerState(low),
+            27 => Self::InvalidPowerLevel(value as u8),
             31 => Self::InvalidVendorType(low),
             _ => Self::Unnamed { number, value },
         }
@@ -75,6 +81,8 @@ impl fmt::Display for Error {
             Self::MixedCallForms => write!(f, "mixed 32 bit and 64 bit CPU_ON arguments"),
             Self::InvalidStateId(value) => write!(f, "invalid power state ID {value}"),
             Self::InvalidMajorVersion(value) => write!(f, "invalid PSCI major version {value}"),
+            Self::InvalidOriginalPowerState(value) => write!(f, "invalid original power state value {value}"),
+            Self::InvalidPowerLevel(value) => write!(f, "invalid power level {value}"),
             Self::InvalidVendorType(value) => write!(f, "invalid SYSTEM_RESET2 vendor type {value}"),
             Self::Unnamed { number, value } => write!(f, "refusal {number} with value {value}"),
         }

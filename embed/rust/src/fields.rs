@@ -21,7 +21,7 @@ fn sure_field(call: Function) -> u64 {
     first_field(call).unwrap_or(0)
 }
 
-/// Table 8 power_state parameter bit fields in Extended StateID format.
+/// Table 8 power_state parameter bit fields in Extended StateID format. [`crate::OriginalPowerState`] has the original format.
 #[derive(Debug, Eq, PartialEq, Clone, Copy)]
 #[allow(missing_docs)]
 pub enum PowerState {

@@ -3,7 +3,7 @@ use crate::archive::{self, Words};
 use crate::parts;
 use crate::{Cookie, EntryPoint, Error, FunctionId, MemProtectRange, Mpidr, PowerState, PsciFeature, ResetType, SuspendMode, SystemOff2Type};
 
-/// PSCI requests and their arguments.
+/// PSCI requests and their arguments, the power states in the extended format. [`crate::OriginalFunction`] has those of the original format.
 #[derive(Debug, Eq, PartialEq, Clone, Copy)]
 #[allow(missing_docs)]
 pub enum Function {
@@ -95,7 +95,7 @@ pub fn recode_smccc(regs: &[u64; 4], out: &mut [u64; 4]) -> Result<(), Error> {
 }
 
 /// A tag and the parts of two fields, then zeros.
-fn tagged<const N: usize, const M: usize>(tag: u64, first: [u64; N], second: [u64; M]) -> Words {
+pub(crate) fn tagged<const N: usize, const M: usize>(tag: u64, first: [u64; N], second: [u64; M]) -> Words {
     let mut words = [0; 9];
     let parts = [tag].into_iter().chain(first).chain(second);
     words.iter_mut().zip(parts).for_each(|(word, part)| *word = part);
@@ -103,7 +103,7 @@ fn tagged<const N: usize, const M: usize>(tag: u64, first: [u64; N], second: [u6
 }
 
 /// The nine words of a call.
-fn words_of(call: &Function) -> Words {
+pub(crate) fn words_of(call: &Function) -> Words {
     use Function as F;
     match *call {
         F::Version => tagged(0, [], []),
@@ -132,7 +132,7 @@ fn words_of(call: &Function) -> Words {
 }
 
 /// The call of nine words. A tag above 21 is refused; the archives give none.
-fn from_words(words: &Words) -> Result<Function, Error> {
+pub(crate) fn from_words(words: &Words) -> Result<Function, Error> {
     use Function as F;
     let p = &words[1..];
     Ok(match words[0] {

@@ -22,6 +22,9 @@
 //! Where arm-psci panics, or merges bit 31 of a vendor's reset type, this crate gives an [`Error`]; docs/EMBEDDING.md lists what firmware has to
 //! change for that. Beside arm-psci's reading of registers there is that of the SMC Calling Convention, [`Function::try_from_smccc`]. There is no
 //! state: all cores may call at once.
+//!
+//! A board is set to one of two formats of a power state. `Function` is for boards set to the extended format, [`OriginalFunction`] for those set to
+//! the original one; registers of one format must not be read as the other.
 #![no_std]
 #![deny(missing_docs)]
 #![deny(unsafe_op_in_unsafe_fn)]
@@ -33,6 +36,7 @@ mod fields;
 mod function;
 mod function_id;
 mod line;
+mod original;
 mod parts;
 
 pub use answers::{AffinityInfo, ErrorCode, FeatureFlagsCpuSuspend, FeatureFlagsSystemOff2, HwState, MigrateInfoType, ReturnCode, Version};
@@ -43,3 +47,4 @@ pub use fields::{
 pub use function::{recode, recode_smccc, Function};
 pub use function_id::FunctionId;
 pub use line::{line, BadNumber};
+pub use original::{recode_original, OriginalFunction, OriginalPowerState, StatelessFunction};

@@ -2,7 +2,8 @@
 //! to its place and back, cut to the width that it has there: `of_mpidr` gives the parts of an MPIDR, `mpidr` the MPIDR of its parts, and so on.
 //! A reader takes at least as many parts as the field has. All of it is inlined, so that the compiler sees the parts to be there and leaves
 //! no path to a panic.
-use crate::{ArchitecturalResetType, Cookie, EntryPoint, Error, FunctionId, MemProtectRange, Mpidr, PowerState, PsciFeature, ResetType, SuspendMode};
+use crate::{ArchitecturalResetType, Cookie, EntryPoint, Error, FunctionId, MemProtectRange, Mpidr, OriginalPowerState, PowerState, PsciFeature};
+use crate::{ResetType, SuspendMode};
 
 /// The exports' own refusals: a tag that no call has, a part that has no room in its place.
 pub const UNKNOWN_TAG: u64 = 1002;
@@ -38,6 +39,18 @@ pub fn power_state(p: &[u64]) -> PowerState {
     } else {
         PowerState::PowerDown(id)
     }
+}
+
+/// 1 for power down; the state ID; the level.
+#[inline(always)]
+pub fn of_original_power_state(state: OriginalPowerState) -> [u64; 3] {
+    let OriginalPowerState { state_id, power_down, level } = state;
+    [power_down.into(), state_id.into(), level.into()]
+}
+
+#[inline(always)]
+pub fn original_power_state(p: &[u64]) -> OriginalPowerState {
+    OriginalPowerState { state_id: p[1] as u16, power_down: p[0] != 0, level: p[2] as u8 }
 }
 
 /// The form, the address, the context.

@@ -162,6 +162,129 @@ fn a_vendor_type_is_refused_and_the_function_id_does_not_ask_for_it() {
     assert_eq!(ErrorCode::from(Error::InvalidVendorType(0x80000000)), ErrorCode::InvalidParameters);
 }
 
+/// Document 02, Change 1: the word of the original power state.
+#[test]
+fn original_power_state() {
+    for (word, state_id, power_down, level) in [(0, 0, false, 0), (0xffff, 0xffff, false, 0), (0x10000, 0, true, 0), (0x0301ffff, 0xffff, true, 3)] {
+        let state = OriginalPowerState { state_id, power_down, level };
+        assert_eq!(OriginalPowerState::try_from(word), Ok(state));
+        assert_eq!(u32::try_from(state), Ok(word));
+    }
+    for bit in 0..32 {
+        let word = 1 << bit;
+        let is_field = bit <= 16 || bit == 24 || bit == 25;
+        assert_eq!(OriginalPowerState::try_from(word).err(), (!is_field).then_some(Error::InvalidOriginalPowerState(word)));
+    }
+    for level in 4..=255 {
+        let state = OriginalPowerState { state_id: 0xffff, power_down: true, level };
+        assert_eq!(u32::try_from(state), Err(Error::InvalidPowerLevel(level)));
+    }
+}
+
+const ORIGINAL: OriginalPowerState = OriginalPowerState { state_id: 0x1234, power_down: true, level: 2 };
+
+/// Every call with that power state; its registers with `ORIGINAL` there; its function ID.
+fn calls_with(state: OriginalPowerState) -> [(OriginalFunction, [u64; 4], FunctionId); 6] {
+    use {FunctionId as Id, OriginalFunction as F};
+    let (cpu_32, cpu_64) = (Mpidr::from_aff210(3, 2, 1), Mpidr::from_aff3210(4, 3, 2, 1));
+    [
+        (F::CpuSuspend { state, entry: ENTRY_32 }, [0x84000001, 0x02011234, 0x80000, 9], Id::CpuSuspend32),
+        (F::CpuSuspend { state, entry: ENTRY_64 }, [0xc4000001, 0x02011234, 0x80000, 9], Id::CpuSuspend64),
+        (F::StatResidency { target_cpu: cpu_32, power_state: state }, [0x84000010, 0x030201, 0x02011234, 0], Id::PsciStatResidency32),
+        (F::StatResidency { target_cpu: cpu_64, power_state: state }, [0xc4000010, 0x400030201, 0x02011234, 0], Id::PsciStatResidency64),
+        (F::StatCount { target_cpu: cpu_32, power_state: state }, [0x84000011, 0x030201, 0x02011234, 0], Id::PsciStatCount32),
+        (F::StatCount { target_cpu: cpu_64, power_state: state }, [0xc4000011, 0x400030201, 0x02011234, 0], Id::PsciStatCount64),
+    ]
+}
+
+/// The error of a call of the original format, which must leave the words as they were.
+fn original_not_written(call: OriginalFunction) -> Error {
+    let mut words = FILLED;
+    let error = call.copy_to_array(&mut words).unwrap_err();
+    assert_eq!(words, FILLED);
+    error
+}
+
+/// Document 02, Change 1: the calls that have a power state; their function ID does not ask for the level.
+#[test]
+fn calls_of_the_original_format() {
+    for (call, regs, id) in calls_with(ORIGINAL) {
+        assert_eq!(OriginalFunction::try_from(&regs), Ok(call));
+        assert_eq!(OriginalFunction::try_from(regs), Ok(call));
+        assert_eq!(call.function_id(), Ok(id));
+        let mut words = FILLED;
+        assert_eq!((call.copy_to_array(&mut words), words), (Ok(()), regs));
+        words = FILLED;
+        let [r0, r1, r2, r3] = regs;
+        assert_eq!((recode_original(&[r0 | 0xffffffff00000000, r1, r2, r3], &mut words), words), (Ok(()), regs));
+    }
+    for (call, _, id) in calls_with(OriginalPowerState { level: 4, ..ORIGINAL }) {
+        assert_eq!(original_not_written(call), Error::InvalidPowerLevel(4));
+        assert_eq!(call.function_id(), Ok(id));
+    }
+}
+
+/// Document 02, Change 1: refusal 26 in the place of 2, so that a refused MPIDR comes first.
+#[test]
+fn refusals_of_the_original_format() {
+    for (regs, error) in [
+        ([0x84000001, 0xffffffff40000002, 0, 0], Error::InvalidOriginalPowerState(0x40000002)),
+        ([0x84000010, 0x01000000, 0x40000002, 0], Error::InvalidMpidr32(0x01000000)),
+        ([0xc4000011, 0x01000000, 0x40000002, 0], Error::InvalidMpidr64(0x01000000)),
+        ([0xc4000011, 0, 0x00020000, 0], Error::InvalidOriginalPowerState(0x00020000)),
+        ([0x84000016, 0, 0, 0], Error::UnrecognisedFunctionId(0x84000016)),
+    ] {
+        let mut words = FILLED;
+        assert_eq!(recode_original(&regs, &mut words).as_ref(), Err(&error));
+        assert_eq!(words, FILLED);
+        assert_eq!(OriginalFunction::try_from(regs), Err(error));
+    }
+    assert_eq!(Error::InvalidOriginalPowerState(7).to_string(), "invalid original power state value 7");
+    assert_eq!(Error::InvalidPowerLevel(7).to_string(), "invalid power level 7");
+    assert_eq!(ErrorCode::from(Error::InvalidOriginalPowerState(7)), ErrorCode::InvalidParameters);
+    assert_eq!(ErrorCode::from(Error::InvalidPowerLevel(7)), ErrorCode::InvalidParameters);
+}
+
+/// Document 02, Change 1: every call that has no power state is the same in both formats; memory protect looks at all of r1.
+#[test]
+fn calls_without_a_power_state() {
+    for regs in [
+        [0x84000000, 0, 0, 0],
+        [0x84000002, 0, 0, 0],
+        [0xc4000003, 0x400030201, 0x80000, 9],
+        [0x84000004, 0x030201, 2, 0],
+        [0xc4000005, 0x400030201, 0, 0],
+        [0x84000006, 0, 0, 0],
+        [0xc4000007, 0, 0, 0],
+        [0x84000008, 0, 0, 0],
+        [0x84000015, 1, 7, 0],
+        [0x84000009, 0, 0, 0],
+        [0xc4000012, 0x80000005, 7, 0],
+        [0x84000013, 1, 0, 0],
+        [0x84000014, 0x1000, 0x2000, 0],
+        [0x8400000a, 0xc4000011, 0, 0],
+        [0x8400000b, 0, 0, 0],
+        [0x8400000c, 0x80000, 9, 0],
+        [0xc400000d, 0x400030201, 7, 0],
+        [0xc400000e, 0x80000, 9, 0],
+        [0x8400000f, 1, 0, 0],
+    ] {
+        let Ok(OriginalFunction::Other(call)) = OriginalFunction::try_from(&regs) else { panic!("{regs:x?}") };
+        assert_eq!(Ok(Function::from(call)), Function::try_from(&regs));
+        assert_eq!(written(call.into()), regs);
+        let mut words = FILLED;
+        assert_eq!((OriginalFunction::Other(call).copy_to_array(&mut words), words), (Ok(()), regs));
+        assert_eq!(OriginalFunction::Other(call).function_id().map(u32::from), Ok(regs[0] as u32));
+    }
+    let enabled = OriginalFunction::Other(StatelessFunction::MemProtect { enabled: true });
+    assert_eq!(OriginalFunction::try_from([0x84000013, 0x100000000, 0, 0]), Ok(enabled));
+    let mixed = OriginalFunction::Other(StatelessFunction::CpuOn { target_cpu: Mpidr::from_aff210(3, 2, 1), entry: ENTRY_64 });
+    assert_eq!((original_not_written(mixed), mixed.function_id()), (Error::MixedCallForms, Err(Error::MixedCallForms)));
+    let (reset_type, cookie) = (ResetType::VendorSpecific(0x80000001), Cookie::Cookie32(7));
+    let reset = OriginalFunction::Other(StatelessFunction::SystemReset2 { reset_type, cookie });
+    assert_eq!((original_not_written(reset), reset.function_id()), (Error::InvalidVendorType(0x80000001), Ok(FunctionId::SystemReset232)));
+}
+
 #[test]
 fn an_mpidr_of_32_bits() {
     assert_eq!(u32::try_from(Mpidr::from_aff3210(0, 2, 3, 4)), Ok(0x020304));

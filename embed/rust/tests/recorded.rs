@@ -1,17 +1,20 @@
-//! The recorded answers of the published crate to decode, encode, function number and decode by Change 2, asked of this crate. One is planted
-//! wrong.
+//! The recorded answers to decode, encode, function number, decode by Change 2, and decode, encode and function number in the original format, asked
+//! of this crate. One is planted wrong.
 use rampcomfrey as psci;
 
 #[allow(dead_code)]
 #[path = "../../../oracle/harness/src/flat.rs"]
 mod flat;
 
-use psci::{Error, Function};
+use psci::{Error, Function, FunctionId, OriginalFunction, OriginalPowerState, StatelessFunction};
 
 const DECODE: u64 = 0;
 const ENCODE: u64 = 1;
 const FUNCTION_ID: u64 = 2;
 const DECODE_SMCCC: u64 = 3;
+const DECODE_ORIGINAL: u64 = 4;
+const ENCODE_ORIGINAL: u64 = 5;
+const FUNCTION_ID_ORIGINAL: u64 = 6;
 
 type Record = [u64; 16];
 
@@ -45,8 +48,44 @@ fn refusal(error: Error) -> [u64; 2] {
         Error::UnrecognisedSuspendMode(value) => [8, value.into()],
         Error::MixedCallForms => [14, 0],
         Error::InvalidStateId(value) => [15, value.into()],
+        Error::InvalidOriginalPowerState(value) => [26, value.into()],
+        Error::InvalidPowerLevel(value) => [27, value.into()],
         Error::InvalidVendorType(value) => [31, value.into()],
         other => panic!("{other:?} is no refusal of a call"),
+    }
+}
+
+/// The nine words of a call of the original format: a power state is power down, state ID and level.
+fn original_words(call: OriginalFunction) -> flat::Flat {
+    let parts = |state: OriginalPowerState| [state.power_down.into(), state.state_id.into(), state.level.into()];
+    let words = |tag, first: &[u64], second: &[u64]| flat::flat(tag, &[first, second].concat());
+    match call {
+        OriginalFunction::CpuSuspend { state, entry } => words(1, &parts(state), &flat::entry(entry)),
+        OriginalFunction::StatResidency { target_cpu, power_state } => words(20, &flat::mpidr(target_cpu), &parts(power_state)),
+        OriginalFunction::StatCount { target_cpu, power_state } => words(21, &flat::mpidr(target_cpu), &parts(power_state)),
+        OriginalFunction::Other(call) => flat::call(call.into()),
+    }
+}
+
+/// The call of nine words. A call without a power state is read from the registers that it is written as, but for the three that can be refused when
+/// they are written, or when that is read.
+fn to_original(words: &flat::Flat) -> OriginalFunction {
+    let p = &words[1..];
+    let state = |p: &[u64]| OriginalPowerState { power_down: p[0] != 0, state_id: p[1] as u16, level: p[2] as u8 };
+    match flat::to_call(words) {
+        Function::CpuSuspend { .. } => OriginalFunction::CpuSuspend { state: state(p), entry: flat::to_entry(&p[3..]) },
+        Function::StatResidency { target_cpu, .. } => OriginalFunction::StatResidency { target_cpu, power_state: state(&p[5..]) },
+        Function::StatCount { target_cpu, .. } => OriginalFunction::StatCount { target_cpu, power_state: state(&p[5..]) },
+        Function::CpuOn { target_cpu, entry } => OriginalFunction::Other(StatelessFunction::CpuOn { target_cpu, entry }),
+        Function::AffinityInfo { mpidr, lowest_affinity_level } => {
+            OriginalFunction::Other(StatelessFunction::AffinityInfo { mpidr, lowest_affinity_level })
+        }
+        Function::SystemReset2 { reset_type, cookie } => OriginalFunction::Other(StatelessFunction::SystemReset2 { reset_type, cookie }),
+        other => {
+            let mut regs = [0; 4];
+            other.copy_to_array(&mut regs).unwrap();
+            OriginalFunction::try_from(regs).unwrap()
+        }
     }
 }
 
@@ -59,23 +98,28 @@ fn agrees(record: &Record) -> Option<bool> {
         Ok(same) => same && record[14..] == [0, 0],
         Err(error) => record[14..] == refusal(error),
     };
+    let is_first = |id: FunctionId| u64::from(u32::from(id)) == regs[0];
+    let written = |copy: &dyn Fn(&mut [u64; 4]) -> Result<(), Error>| {
+        let wrong = regs.map(|word| !word);
+        let mut lent = wrong;
+        let told = copy(&mut lent);
+        lent == if told.is_ok() { regs } else { wrong } && same(told.map(|()| true))
+    };
     Some(match record[0] {
         DECODE => same(Function::try_from(&regs).map(|f| flat::call(f) == *call)),
         DECODE_SMCCC => same(Function::try_from_smccc(&regs).map(|f| flat::call(f) == *call)),
-        ENCODE => {
-            let wrong = regs.map(|word| !word);
-            let mut lent = wrong;
-            let told = flat::to_call(call).copy_to_array(&mut lent);
-            lent == if told.is_ok() { regs } else { wrong } && same(told.map(|()| true))
-        }
-        FUNCTION_ID => same(flat::to_call(call).function_id().map(|id| u64::from(u32::from(id)) == regs[0])),
+        DECODE_ORIGINAL => same(OriginalFunction::try_from(&regs).map(|f| original_words(f) == *call)),
+        ENCODE => written(&|lent| flat::to_call(call).copy_to_array(lent)),
+        ENCODE_ORIGINAL => written(&|lent| to_original(call).copy_to_array(lent)),
+        FUNCTION_ID => same(flat::to_call(call).function_id().map(is_first)),
+        FUNCTION_ID_ORIGINAL => same(to_original(call).function_id().map(is_first)),
         _ => return None,
     })
 }
 
 #[test]
 fn one_planted_answer_differs() {
-    let mut compared = [0; 4];
+    let mut compared = [0; 7];
     let mut differed = 0;
     for record in records() {
         if let Some(same) = agrees(&record) {
@@ -83,7 +127,7 @@ fn one_planted_answer_differs() {
             differed += !same as u64;
         }
     }
-    println!("decode, encode, function number, decode by Change 2: {compared:?} compared, {differed} differed");
+    println!("by operation: {compared:?} compared, {differed} differed");
     assert!(compared.iter().all(|count| *count > 1000), "{compared:?}");
     assert_eq!(differed, 1);
 }
