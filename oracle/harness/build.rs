@@ -9,8 +9,10 @@ fn main() {
     let dir = std::env::var("PSCI_LIB_DIR").unwrap_or(format!("{here}/../../target/staticlib"));
     for (bin, archive) in [
         ("direct", "call_exports"),
+        ("direct", "original_exports"),
         ("direct", "line_exports"),
         ("bench", "call_exports"),
+        ("bench", "original_exports"),
         ("bench", "line_exports"),
         ("bench", "mpidr_bench"),
     ] {

@@ -151,6 +151,9 @@ fn asked(words: &Flat) -> Result<Function, No> {
 /// `q` with its answer. A refusal leaves the words that it would have written as they were.
 #[inline]
 pub fn answer(q: &Record) -> Record {
+    if op::ORIGINAL.contains(&q.op) {
+        return departures::original(q);
+    }
     let mut a = Record { refusal: 0, carried: 0, ..*q };
     let refused = match q.op {
         op::DECODE => Function::try_from(&q.regs).map(|f| a.call = call(f)).map_err(refusal),

@@ -6,11 +6,15 @@ pub use rampcomfrey as psci;
 pub mod answers;
 #[path = "flat.rs"]
 pub mod flat;
+#[path = "embedded_original.rs"]
+mod original;
 
 /// What firmware has to change: four methods and conversions give an error where arm-psci panics, and two, `copy_to_array` among them, where it
-/// merges bit 31 of a vendor type; `Error` has a case for each panic, and one for that. And what arm-psci lacks: Change 2's decoder.
+/// merges bit 31 of a vendor type; `Error` has a case for each panic, and one for that. And what arm-psci lacks: Change 2's decoder, and Change 1's
+/// format, with an error for a word and for a level.
 pub mod departures {
     use super::answers::{self, No};
+    pub use super::original::answer as original;
     use rampcomfrey::*;
 
     pub fn decode_smccc(regs: &[u64; 4]) -> Result<Function, Error> {
@@ -22,6 +26,8 @@ pub mod departures {
             Error::MixedCallForms => (14, 0),
             Error::InvalidStateId(id) => (15, id.into()),
             Error::InvalidMajorVersion(major) => (16, major.into()),
+            Error::InvalidOriginalPowerState(word) => (26, word.into()),
+            Error::InvalidPowerLevel(level) => (27, level.into()),
             Error::InvalidVendorType(vendor_type) => (31, vendor_type.into()),
             other => unreachable!("{other:?} is in neither paper"),
         }

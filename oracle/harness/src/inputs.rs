@@ -1,6 +1,6 @@
 //! Questions: boundary values in full, then seeded random ones. What an answer must leave as it is holds odd words.
 use crate::flat::*;
-use crate::{Record, op};
+use crate::{Record, op, original};
 
 /// splitmix64.
 pub struct Rng(pub u64);
@@ -132,8 +132,76 @@ pub fn decode_random(seed: u64, count: u64, ask: &mut dyn FnMut(Record)) {
     }
 }
 
+/// A question of decode, asked of the decoder for the original format.
+pub fn in_original(q: Record) -> Record {
+    Record { op: op::DECODE_ORIGINAL, ..q }
+}
+
+/// Words at the limits of the original power state: those of the bounds, one or two bits set, and one bit turned in each choice of full fields.
+fn original_words() -> Vec<u64> {
+    let mut out: Vec<u64> = bounds().into_iter().chain(sparse()).filter(|w| *w < 1 << 32).collect();
+    for id in [0, 0xffff] {
+        for down in [0, 1 << 16] {
+            for level in [0u64, 1, 2, 3] {
+                let full = level << 24 | down | id;
+                out.push(full);
+                out.extend((0..32).map(|bit| full ^ 1 << bit));
+            }
+        }
+    }
+    out.sort();
+    out.dedup();
+    out
+}
+
+/// Every question of decode; then words at the limits under each of the six numbers that have a power state, with entries, and with MPIDRs that are
+/// accepted and refused, under high halves to be ignored; and the same words to their reader.
+pub fn original_bounds(ask: &mut dyn FnMut(Record)) {
+    decode_bounds(&mut |q| ask(in_original(q)));
+    let fields = [0, 0x03_0201, 0x4_0003_0201, 0xff_00ff_ffff, 0x100_0000, 0xff00_0000, 1 << 40, 1 << 63, u64::MAX];
+    for word in original_words() {
+        for high in [0, 1, 0xdead_beef, 0xffff_ffff] {
+            let state = high << 32 | word;
+            for n in original::NUMBERS.map(u64::from) {
+                for field in fields {
+                    let mut regs = [high << 32 | n, field, field, !field];
+                    regs[original::register(n).expect("a number with a power state")] = state;
+                    ask(in_original(decode(regs)));
+                }
+            }
+            ask(read(op::READ_POWER_STATE_ORIGINAL, state));
+        }
+    }
+}
+
+/// A word of the original format, mostly legal.
+fn some_original(rng: &mut Rng) -> u64 {
+    let (word, legal) = (rng.word(), u64::from(original::MASKS));
+    match rng.below(8) {
+        0 => word,
+        1 => word & legal | 1 << rng.below(32),
+        2 => legal ^ 1 << rng.below(32),
+        3 => word & legal | word >> 32 << 32,
+        _ => word & legal,
+    }
+}
+
+/// Every question of decode; of a set that has a power state also one more set, with a drawn word, and that word to its reader.
+pub fn original_random(seed: u64, count: u64, ask: &mut dyn FnMut(Record)) {
+    let mut rng = Rng(!seed);
+    decode_random(seed, count, &mut |q| {
+        ask(in_original(q));
+        if let Some(at) = original::register(q.regs[0]) {
+            let (word, mut regs) = (some_original(&mut rng), q.regs);
+            regs[at] = word;
+            ask(in_original(decode(regs)));
+            ask(read(op::READ_POWER_STATE_ORIGINAL, word));
+        }
+    });
+}
+
 #[derive(Clone, Copy)]
-pub enum Part { Mpidr, Power, Entry, Cookie, Range, Reset, Feature, Word, Bool, Unit, Version, Return, Code, Hw, Id, Refusal }
+pub enum Part { Mpidr, Power, Original, Entry, Cookie, Range, Reset, Feature, Word, Bool, Unit, Version, Return, Code, Hw, Id, Refusal }
 
 /// The parts of each case of `Function`.
 pub const PARTS: [&[Part]; 22] = {
@@ -143,6 +211,15 @@ pub const PARTS: [&[Part]; 22] = {
         &[Unit, Cookie], &[], &[Reset, Cookie], &[Bool], &[Range], &[Feature], &[], &[Entry],
         &[Mpidr, Word], &[Entry], &[Bool], &[Mpidr, Power], &[Mpidr, Power],
     ]
+};
+
+/// The same where a power state is in the original format.
+pub const PARTS_ORIGINAL: [&[Part]; 22] = {
+    let mut parts = PARTS;
+    parts[1] = &[Part::Original, Part::Entry];
+    parts[20] = &[Part::Mpidr, Part::Original];
+    parts[21] = parts[20];
+    parts
 };
 
 fn words32() -> Vec<u64> {
@@ -181,6 +258,10 @@ fn domain(part: Part) -> Vec<Vec<u64>> {
             out
         }
         Part::Power => words32().into_iter().flat_map(|id| [vec![0, id], vec![1, id]]).collect(),
+        Part::Original => {
+            let (ids, levels) = ([0, 1, 0x7fff, 0x8000, 0xffff], [0, 1, 2, 3, 4, 0x7f, 0x80, 0xff]);
+            (0..80).map(|i| vec![i % 2, ids[i as usize / 2 % 5], levels[i as usize / 10]]).collect()
+        }
         Part::Entry | Part::Range => pairs(0, &few).chain(pairs(1, &wide)).collect(),
         Part::Cookie => formed().collect(),
         Part::Reset => std::iter::once(vec![0, 0]).chain(words32().into_iter().map(|v| vec![1, v])).collect(),
@@ -213,6 +294,10 @@ fn some_part(part: Part, rng: &mut Rng, out: &mut Vec<u64>) {
             let id = if rng.below(16) == 0 { word as u32 } else { word as u32 & 0x0fff_ffff };
             out.extend([form, id.into()]);
         }
+        Part::Original => {
+            let level = if rng.below(8) == 0 { word >> 16 & 0xff } else { word >> 16 & 3 };
+            out.extend([form, word & 0xffff, level]);
+        }
         Part::Entry | Part::Range => out.extend([form, wide(word), wide(rng.word())]),
         Part::Cookie => out.extend([form, wide(word)]),
         Part::Reset => out.extend([form, if form == 0 { 0 } else { word as u32 as u64 }]),
@@ -239,8 +324,8 @@ fn ask_call(op: u64, tag: u64, parts: &[u64], salt: u64, ask: &mut dyn FnMut(Rec
 }
 
 /// All combinations of the boundary values of each call's parts, with its tag.
-fn each_call(ask: &mut dyn FnMut(u64, &[u64])) {
-    for (tag, parts) in PARTS.iter().enumerate() {
+fn each_call(calls: &[&[Part]; 22], ask: &mut dyn FnMut(u64, &[u64])) {
+    for (tag, parts) in calls.iter().enumerate() {
         let mut all = vec![vec![]];
         for part in *parts {
             let next = domain(*part);
@@ -250,23 +335,35 @@ fn each_call(ask: &mut dyn FnMut(u64, &[u64])) {
     }
 }
 
-/// Encode and function number: all combinations of the parts' boundary values.
-pub fn encode_bounds(ask: &mut dyn FnMut(Record)) {
+/// Encode and function number, by their operations: all combinations of the parts' boundary values.
+fn encode_all(calls: &[&[Part]; 22], ops: [u64; 2], ask: &mut dyn FnMut(Record)) {
     let mut salt = Rng(0);
-    each_call(&mut |tag, parts| {
-        for op in [op::ENCODE, op::FUNCTION_ID] {
+    each_call(calls, &mut |tag, parts| {
+        for op in ops {
             ask_call(op, tag, parts, salt.word(), ask);
         }
     });
 }
 
-pub fn encode_random(seed: u64, count: u64, ask: &mut dyn FnMut(Record)) {
+pub fn encode_bounds(ask: &mut dyn FnMut(Record)) {
+    encode_all(&PARTS, [op::ENCODE, op::FUNCTION_ID], ask);
+}
+
+/// Also power states to their writer.
+pub fn encode_original_bounds(ask: &mut dyn FnMut(Record)) {
+    encode_all(&PARTS_ORIGINAL, [op::ENCODE_ORIGINAL, op::FUNCTION_ID_ORIGINAL], ask);
+    for parts in domain(Part::Original) {
+        ask_call(op::WRITE_POWER_STATE_ORIGINAL, 0, &parts, parts[1], ask);
+    }
+}
+
+fn encode_some(calls: &[&[Part]; 22], ops: [u64; 2], seed: u64, count: u64, ask: &mut dyn FnMut(Record)) {
     let mut rng = Rng(seed);
     let mut parts = Vec::with_capacity(8);
     for _ in 0..count {
         let tag = rng.below(22);
         parts.clear();
-        for part in PARTS[tag as usize] {
+        for part in calls[tag as usize] {
             some_part(*part, &mut rng, &mut parts);
         }
         if tag == 3 && rng.below(8) != 0 {
@@ -277,9 +374,23 @@ pub fn encode_random(seed: u64, count: u64, ask: &mut dyn FnMut(Record)) {
                 parts[7] &= 0xffff_ffff;
             }
         }
-        let op = if rng.below(8) == 0 { op::FUNCTION_ID } else { op::ENCODE };
+        let op = ops[(rng.below(8) == 0) as usize];
         ask_call(op, tag, &parts, rng.word(), ask);
     }
+}
+
+pub fn encode_random(seed: u64, count: u64, ask: &mut dyn FnMut(Record)) {
+    encode_some(&PARTS, [op::ENCODE, op::FUNCTION_ID], seed, count, ask);
+}
+
+/// Of a call that has a power state also that state to its writer.
+pub fn encode_original_random(seed: u64, count: u64, ask: &mut dyn FnMut(Record)) {
+    encode_some(&PARTS_ORIGINAL, [op::ENCODE_ORIGINAL, op::FUNCTION_ID_ORIGINAL], seed, count, &mut |q| {
+        ask(q);
+        if let Some(at) = original::place(q.call[0]) {
+            ask_call(op::WRITE_POWER_STATE_ORIGINAL, 0, &q.call[at..at + 3], q.regs[0], ask);
+        }
+    });
 }
 
 /// The operations that take parts and give one word, and the part that each takes.
@@ -327,22 +438,43 @@ pub fn words_random(seed: u64, count: u64, ask: &mut dyn FnMut(Record)) {
     }
 }
 
-/// Records that ask for nothing: operations and tags that there aren't, and each word of a value's turned in one bit. An operation's first
-/// byte is not from 0x20 to 0x7e, which makes a label of the record; its neighbours do not.
+/// Parts of an original power state on both sides of what has room, in each call that has one, and to its writer.
+fn original_parts(ask: &mut dyn FnMut(Record)) {
+    let mut salt = Rng(5);
+    for down in [0, 1, 2, 1 << 32, u64::MAX] {
+        for id in [0, 0xffff, 0x1_0000, 0x1_0001, 0x1_ffff, 1 << 32, u64::MAX] {
+            for level in [0, 3, 4, 0xff, 0x100, 0x101, 0x1ff, 1 << 32, u64::MAX] {
+                for op in [op::ENCODE_ORIGINAL, op::FUNCTION_ID_ORIGINAL] {
+                    ask_call(op, 1, &[down, id, level, 1, 2, 3], salt.word(), ask);
+                    ask_call(op, 20, &[0, 0, 3, 2, 1, down, id, level], salt.word(), ask);
+                    ask_call(op, 21, &[1, 4, 3, 2, 1, down, id, level], salt.word(), ask);
+                }
+                ask_call(op::WRITE_POWER_STATE_ORIGINAL, 0, &[down, id, level], salt.word(), ask);
+            }
+        }
+    }
+}
+
+/// Records that ask for nothing: operations and tags that there aren't, parts of an original power state that have no room, and each word of a
+/// value's turned in one bit. An operation's first byte is not from 0x20 to 0x7e, which makes a label of the record; its neighbours do not.
 pub fn malformed(ask: &mut dyn FnMut(Record)) {
-    let none = [4, 15, 34, 47, 66, 1 << 32, 0x1fff_ffff_ffff_ffff, 0x7f00_0000_0000_0000, u64::MAX];
+    let none = [7, 15, 35, 47, 67, 1 << 32, 0x1fff_ffff_ffff_ffff, 0x7f00_0000_0000_0000, u64::MAX];
     for op in none {
         ask(Record { op, call: odd(op), regs: [op; 4], ..Record::default() });
     }
+    original_parts(ask);
     let mut salt = Rng(3);
     for tag in [22, 23, 255, 1 << 32, u64::MAX] {
-        for op in [op::ENCODE, op::FUNCTION_ID] {
+        for op in [op::ENCODE, op::FUNCTION_ID, op::ENCODE_ORIGINAL, op::FUNCTION_ID_ORIGINAL] {
             ask_call(op, tag, &[0; 8], salt.word(), ask);
         }
     }
+    let calls = (0..22).flat_map(|tag| [(op::ENCODE, tag, PARTS[tag as usize]), (op::ENCODE_ORIGINAL, tag, PARTS_ORIGINAL[tag as usize])]);
+    let writers = WRITERS.iter().chain(&[(op::WRITE_POWER_STATE_ORIGINAL, Part::Original)]);
+    let all: Vec<(u64, u64, &[Part])> = calls.chain(writers.map(|(op, part)| (*op, 0, std::slice::from_ref(part)))).collect();
     for _ in 0..20 {
         let seed = salt.word();
-        for (op, tag, parts) in (0..22).map(|tag| (op::ENCODE, tag, PARTS[tag as usize])).chain(WRITERS.iter().map(|(op, part)| (*op, 0, std::slice::from_ref(part)))) {
+        for (op, tag, parts) in all.iter().copied() {
             let mut words = Vec::new();
             parts.iter().for_each(|part| some_part(*part, &mut Rng(seed), &mut words));
             for place in 1..9 {
@@ -368,11 +500,15 @@ pub fn plan(name: &str, seed: u64, count: u64, ask: &mut dyn FnMut(Record)) {
         "encode-bounds" => encode_bounds(ask),
         "words-bounds" => words_bounds(ask),
         "smccc-bounds" => decode_bounds(&mut |q| ask(smccc(q))),
+        "original-bounds" => original_bounds(ask),
+        "original-encode-bounds" => encode_original_bounds(ask),
         "malformed" => malformed(ask),
         "decode" => decode_random(seed, count, ask),
         "encode" => encode_random(seed, count, ask),
         "words" => words_random(seed, count, ask),
         "smccc" => decode_random(seed, count, &mut |q| ask(smccc(q))),
+        "original" => original_random(seed, count, ask),
+        "original-encode" => encode_original_random(seed, count, ask),
         _ => panic!("no plan {name}"),
     }
 }

@@ -1,12 +1,13 @@
 //! The Rust codec, unchanged, as the judge. A `Record` is a question with its answer: an operation, a call or a single value as
-//! nine words, four registers, a refusal and what it carries. `oracle` answers it from the Rust; the program `replay` answers the same, and
-//! so does `embedded::answers::answer` from the crate in embed/rust.
+//! nine words, four registers, a refusal and what it carries. `oracle` answers it from the Rust, a power state of the original format from
+//! linux/psci.h (original.rs); the program `replay` answers the same, and so does `embedded::answers::answer` from the crate in embed/rust.
 #![allow(clippy::duplicate_mod)] // answers.rs and flat.rs are read over two crates
 
 #[cfg(feature = "rattle")]
 pub mod embedded;
 pub mod inputs;
 pub mod line;
+pub mod original;
 pub mod published;
 #[cfg(feature = "rattle")]
 pub mod rattle;
@@ -58,6 +59,9 @@ pub mod op {
     pub const ENCODE: u64 = 1;
     pub const FUNCTION_ID: u64 = 2;
     pub const DECODE_SMCCC: u64 = 3; // Change 2: memory protect has the low half of r1
+    pub const DECODE_ORIGINAL: u64 = 4; // Change 1, as the next two: power states in the original format
+    pub const ENCODE_ORIGINAL: u64 = 5;
+    pub const FUNCTION_ID_ORIGINAL: u64 = 6;
     pub const READ_FUNCTION_ID: u64 = 16;
     pub const READ_RETURN_CODE: u64 = 17; // i32, as every 32-bit reader the low half of r0
     pub const READ_ERROR_CODE: u64 = 18; // i32
@@ -76,6 +80,7 @@ pub mod op {
     pub const READ_SUSPEND_MODE: u64 = 31;
     pub const FROM_AFF3210: u64 = 32; // the low bytes of r0 to r3
     pub const FROM_AFF210: u64 = 33; // of r0 to r2
+    pub const READ_POWER_STATE_ORIGINAL: u64 = 34;
     pub const WRITE_FUNCTION_ID: u64 = 48;
     pub const WRITE_RETURN_CODE: u64 = 49; // i32, as a word of 32 bits
     pub const WRITE_ERROR_CODE: u64 = 50; // i32
@@ -94,9 +99,14 @@ pub mod op {
     pub const ERROR_TO_CODE: u64 = 63; // number and value of a refusal to the place of a code
     pub const ENTRY_ADDRESS: u64 = 64;
     pub const ENTRY_CONTEXT: u64 = 65;
+    pub const WRITE_POWER_STATE_ORIGINAL: u64 = 66;
+
+    /// Those of Change 1.
+    pub const ORIGINAL: [u64; 5] =
+        [DECODE_ORIGINAL, ENCODE_ORIGINAL, FUNCTION_ID_ORIGINAL, READ_POWER_STATE_ORIGINAL, WRITE_POWER_STATE_ORIGINAL];
 }
 
-/// A record's own refusals, beside document 01's: no such operation, no such tag, a part that has no room in its place.
+/// A record's own refusals, beside the papers': no such operation, no such tag, a part that has no room in its place.
 pub const NO_OPERATION: u64 = 1001;
 pub const NO_TAG: u64 = 1002;
 pub const NO_PART: u64 = 1003;

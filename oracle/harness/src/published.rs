@@ -8,9 +8,11 @@ pub mod flat;
 
 /// Where the Rust panics, document 01 refuses: 14 carries nothing, 15 the state ID, 16 the major. Before a panic the Rust has cleared the four
 /// words; a refusal leaves them. Where the Rust merges bit 31 of a vendor type, document 02 (Change 5) refuses: 31 carries the type. Change 2's
-/// decoder, which the Rust lacks, is the Rust's of the set with r1's upper half cleared for memory protect.
+/// decoder, which the Rust lacks, is the Rust's of the set with r1's upper half cleared for memory protect. Change 1's format, which it lacks too,
+/// is in original.rs.
 pub mod departures {
     use super::answers::No;
+    pub use crate::original::answer as original;
     use arm_psci::*;
     use std::cell::Cell;
     use std::panic::{UnwindSafe, catch_unwind, set_hook};

@@ -92,10 +92,12 @@ impl Group {
             word ^= mask * (number >> bit & 1);
         }
         // a decoder takes fields from the other registers, and these are legal for most; Change 2's gets an r1 that tells whether its low half is
-        // taken for memory protect and in no 64-bit call; a reader must leave them as they are
+        // taken for memory protect and in no 64-bit call; Change 1's an r2 that is another power state in each format; a reader must leave them as
+        // they are
         let rest = match op {
             op::DECODE => [1; 3],
             op::DECODE_SMCCC => [1 << 32, 1, 1],
+            op::DECODE_ORIGINAL => [1, 1 << 16 | 1, 1],
             _ => [draw.word(), draw.word(), draw.word()],
         };
         Block { op, shift: self.shift, count, regs: [word, rest[0], rest[1], rest[2]] }
@@ -119,6 +121,8 @@ impl Group {
 ///
 /// 24 and 25, MPIDR and its register: half of the words whose reserved bits are clear, with affinities 1, 2 and 3 whole; then every choice of
 /// the reserved bits 24 to 31 with affinities 2 and 3 whole; then every choice of the reserved bits 40 to 63.
+///
+/// 34, original power states, gets each word of 32 bits too; thinned to 24, with the bits of type and level and their neighbours each for itself.
 pub fn groups(op: u64) -> Vec<Group> {
     match op {
         op::READ_ERROR_CODE_64 => vec![
@@ -135,6 +139,10 @@ pub fn groups(op: u64) -> Vec<Group> {
                 together(0..=7), together(8..=15), together(16..=23), each(24..=24), together(25..=31), together(32..=39), each(40..=47),
             ]),
         ],
+        op::READ_POWER_STATE_ORIGINAL => {
+            let turned = [each(18..=22), each(27..=29), each(23..=26), each(30..=31), each(16..=17)];
+            vec![Group { drawn_high: true, ..Group::new(0, &turned) }]
+        }
         _ => vec![Group { drawn_high: true, ..Group::new(0, &[each(16..=31)]) }],
     }
 }
@@ -170,9 +178,15 @@ impl Block {
     }
 }
 
+/// The decoders and readers that are swept.
+pub fn operations() -> impl Iterator<Item = u64> {
+    let readers = (op::READ_FUNCTION_ID..=op::READ_SUSPEND_MODE).chain([op::READ_POWER_STATE_ORIGINAL]);
+    [op::DECODE, op::DECODE_SMCCC, op::DECODE_ORIGINAL].into_iter().chain(readers)
+}
+
 /// The blocks of an operation; `bits` below 32 thins them to 2^bits words.
 pub fn blocks(op: u64, bits: u32) -> Vec<Block> {
-    assert!([op::DECODE, op::DECODE_SMCCC].contains(&op) || (op::READ_FUNCTION_ID..=op::READ_SUSPEND_MODE).contains(&op), "no reader or decoder {op}");
+    assert!(operations().any(|swept| swept == op), "no reader or decoder {op}");
     assert!((2..=32).contains(&bits), "2 to 32 bits");
     groups(op).iter().flat_map(|g| g.blocks(op, bits)).collect()
 }

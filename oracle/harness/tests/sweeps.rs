@@ -1,12 +1,8 @@
 //! That a sweep asks what it says, and that its digest is what a program makes that knows the block's bytes alone.
-use harness::sweep::{Digest, blocks, groups};
+use harness::sweep::{Digest, blocks, groups, operations};
 use harness::{Record, inputs, op, oracle, quiet_panics};
 
 const WIDE: [u64; 3] = [op::READ_ERROR_CODE_64, op::READ_MPIDR_64, op::READ_MPIDR_REGISTER];
-
-fn operations() -> impl Iterator<Item = u64> {
-    [op::DECODE, op::DECODE_SMCCC].into_iter().chain(op::READ_FUNCTION_ID..=op::READ_SUSPEND_MODE)
-}
 
 /// The fold of 1, 2 and 2^64 - 1, computed apart from it.
 #[test]
@@ -76,7 +72,7 @@ fn digests() {
 #[test]
 fn no_record_is_a_label() {
     quiet_panics();
-    for name in ["decode-bounds", "smccc-bounds", "encode-bounds", "words-bounds", "malformed"] {
+    for name in ["decode-bounds", "smccc-bounds", "original-bounds", "encode-bounds", "original-encode-bounds", "words-bounds", "malformed"] {
         inputs::plan(name, 0, 0, &mut |q| assert!(!(0x20..=0x7e).contains(&q.bytes()[0]), "{name}: {q:x?}"));
     }
 }

@@ -1,13 +1,13 @@
-//! `bench [ROUNDS]`: times two sides on the same lists in one run, in turn, and keeps the least time of each. Both are called through a
-//! C pointer that the compiler can't see through; nothing is cleared on either side. The two are the Rust and the Rattle; and, of the
-//! readers of a 64-bit MPIDR, that of the whole register and that of its halves. `bench count LIST SIDE` makes the calls of one list once,
-//! for callgrind: SIDE is first, second or none, a call that does nothing. `bench lists` has a line for each list: its two sides and its
-//! name; `bench calls LIST` counts one. `bench judge` times nothing: it holds lines and readers to the Rust.
+//! `bench [ROUNDS]`: times two sides on the same lists in one run, in turn, and keeps the least time of each. Both are called through a C pointer
+//! that the compiler can't see through; nothing is cleared on either side. The two are the Rust and the Rattle; the Rattle in the extended and in
+//! the original format; and, of the readers of a 64-bit MPIDR, that of the whole register and that of its halves. `bench count LIST SIDE` makes the
+//! calls of one list once, for callgrind: SIDE is first, second or none, a call that does nothing. `bench lists` has a line for each list: its two
+//! sides and its name; `bench calls LIST` counts one. `bench judge` times nothing: it holds lines and readers to the Rust.
 use arm_psci::{Function, Mpidr};
 use harness::inputs::{AFFINITIES, Rng};
 use harness::line::{self, Written};
 use harness::rattle::{self, Refusal};
-use harness::{flat, inputs, low_half_for_protect, refusal};
+use harness::{flat, inputs, low_half_for_protect, original, refusal};
 use std::hint::black_box;
 use std::time::Instant;
 
@@ -294,6 +294,15 @@ fn main() {
         lines("line:_mixed", &mixed),
         lines("line:_legal", &legal),
     ];
+    // legal in both formats of a power state, and so written alike
+    let both: Vec<[u64; 4]> = legal.iter().copied().filter(|r| original::register(r[0]).is_none_or(|at| r[at] as u32 & !original::MASKS == 0)).collect();
+    let formats = |name, list: &[[u64; 4]]| words(name, list, rattle::psci_recode as Words<4, 4>, rattle::psci_recode_original);
+    let format_pairs = vec![
+        formats("decode_then_encode:_legal_in_both_formats", &both),
+        formats("decode_then_encode_in_both_formats:_64-bit_CPU_on", &only([0xc400_0003, 0x1_0002_0304, 0x8_0000, 9])),
+        formats("decode_then_encode_in_both_formats:_32-bit_CPU_suspend", &only([0x8400_0001, 0x0301_0007, 0x8_0000, 9])),
+        formats("decode_then_encode_in_both_formats:_CPU_off", &only([0x8400_0002, 0, 0, 0])),
+    ];
     let [legal_words, one_bit, random, drawn] = registers(1, 1 << 14);
     let mpidr = vec![
         readers("64-bit_MPIDR:_legal_words", &legal_words),
@@ -301,7 +310,11 @@ fn main() {
         readers("64-bit_MPIDR:_random_words", &random),
         readers("64-bit_MPIDR:_one_of_the_three_drawn", &drawn),
     ];
-    let tables = [Table { first: "Rust", second: "Rattle", pairs: codec }, Table { first: "whole_register", second: "halves", pairs: mpidr }];
+    let tables = [
+        Table { first: "Rust", second: "Rattle", pairs: codec },
+        Table { first: "extended", second: "original", pairs: format_pairs },
+        Table { first: "whole_register", second: "halves", pairs: mpidr },
+    ];
     let named = |name: &str| tables.iter().flat_map(|t| &t.pairs).find(|p| p.name() == name).expect("the name of a list");
     match word(0) {
         "lists" => tables.iter().for_each(Table::name_lists),

@@ -1,6 +1,7 @@
 //! `stream PLAN [SEED COUNT] | replay`: the Rust's answers to a plan's questions, as records of 128 bytes on standard output.
 //! `stream sweep numbers|OPERATION [BITS] | replay`: 2^BITS words, by default 2^32, to decode as function numbers, or to the reader or decoder
-//! with that operation, as blocks with a digest. The number of records or blocks and the tally of refusals go to standard error.
+//! with that operation, as blocks with a digest. The number of records or blocks and the tally of refusals go to standard error. A plan that
+//! asks nothing is an error, and so is one of the original format that lacks calls of some kind.
 use harness::tally::Tally;
 use harness::{inputs, op, oracle, quiet_panics, sweep};
 use std::io::Write;
@@ -13,6 +14,7 @@ fn plan(name: &str, seed: u64, count: u64, tally: &mut Tally, out: &mut impl Wri
         tally.note(&a);
         out.write_all(&a.bytes()).unwrap();
     });
+    assert!(records > 0 && (!name.starts_with("original") || tally.has_original()), "{name}: nothing of some kind: {tally}");
     format!("{records} records")
 }
 

@@ -1,6 +1,7 @@
-//! `vectors SEED COUNT > FILE`: the recorded list. COUNT records, a quarter each of decode, of Change 2's decoder, of encode and function number,
-//! and of words; half of each quarter from the boundary plan, thinned evenly, half random; then two of each refusal if fewer came. One
-//! more record, in the middle, is planted wrong: a program that says of the list that no record differs has not compared it.
+//! `vectors SEED COUNT > FILE`: the recorded list. COUNT records, a sixth each of decode, of Change 2's decoder, of Change 1's (and its reader), of
+//! encode and function number, of Change 1's (and its writer), and of words; half of each sixth from the boundary plan, thinned evenly, half
+//! random; then two of each refusal if fewer came. One more record, in the middle, is planted wrong: a program that says of the list that no
+//! record differs has not compared it.
 use harness::tally::Tally;
 use harness::{Record, inputs, op, oracle, quiet_panics};
 use std::io::Write;
@@ -34,16 +35,18 @@ fn main() {
     let mut args = std::env::args().skip(1).map(|a| a.parse().expect("a number"));
     let (seed, count): (u64, u64) = (args.next().expect("SEED"), args.next().expect("COUNT"));
     quiet_panics();
-    let part = count / 8;
+    let part = count / 12;
     let mut list = Vec::new();
-    for name in ["decode", "smccc", "encode", "words"] {
+    for name in ["decode", "smccc", "original", "encode", "original-encode", "words"] {
         list.extend(thinned(part, &format!("{name}-bounds")));
-        inputs::plan(name, seed, part, &mut |q| list.push(q));
+        let mut drawn = Vec::new();
+        inputs::plan(name, seed, part, &mut |q| drawn.push(q));
+        list.extend(drawn.into_iter().take(part as usize)); // a plan of the original format asks more than it draws
     }
     let mut tally = Tally::default();
     let mut answers: Vec<Record> = list.iter().map(oracle).collect();
     answers.iter().for_each(|a| tally.note(a));
-    for name in ["decode-bounds", "encode-bounds", "words-bounds"] {
+    for name in ["decode-bounds", "original-bounds", "encode-bounds", "original-encode-bounds", "words-bounds"] {
         inputs::plan(name, 0, 0, &mut |q| {
             let a = oracle(&q);
             if tally.times(&a) < 2 {
