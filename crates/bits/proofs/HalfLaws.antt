@@ -23,7 +23,7 @@ high-field k lo count a b h =
     ap (λ (x : ℕ). x % 2 ^ count) (sym (shr-shr (a * 2 ^ k + b) k lo) ∙ ap (λ (x : ℕ). x / 2 ^ lo) (high a k h))
 
 -- `a | b` is zero exactly where both are
-or-none : (a b : ℕ) → bitOr a b ≡ 0 → (a ≡ 0) × (b ≡ 0)
+pub or-none : (a b : ℕ) → bitOr a b ≡ 0 → (a ≡ 0) × (b ≡ 0)
 or-none a b z = (omega (arith, or-add-and a b, and-le-r a b), omega (arith, or-add-and a b, and-le-l a b))
 
 none-or : (a b : ℕ) → a ≡ 0 → b ≡ 0 → bitOr a b ≡ 0

@@ -3,3 +3,4 @@ pub mod HalfLaws
 pub mod Masks
 pub mod Picks
 pub mod TwosComplement
+pub mod Xor

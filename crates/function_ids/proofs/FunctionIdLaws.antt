@@ -1,9 +1,12 @@
 -- Reading and writing a function number invert each other. Assumes nothing.
-use mathlib.Core.Path.{_≡_, refl}
+use mathlib.Core.Path.{_≡_, refl, sym, ap, _∙_}
+use mathlib.Core.Bool.{Bool, true}
 use Prim.Native.Nat.{ℕ}
+use lib.IntN.{pos}
 use Rattle.refusals.specs.Answers.{accepted}
 use Rattle.refusals.specs.Inverses.{Any}
-use Rattle.refusals.proofs.Choosing.{numbered-is, numbered-writes, numbered-reads}
+use Rattle.refusals.proofs.Answering.{same-accepted}
+use Rattle.refusals.proofs.Choosing.{numbered-is, numbered-writes, numbered-reads, every, every-chosen}
 use Rattle.function_ids.specs.FunctionIds.{functions, functionNumber, readFunctionId}
 use Rattle.function_ids.specs.FunctionIdLaws.{FunctionIdLaws}
 use Rattle.function_ids.specs.declared.FunctionId.{FunctionId}
@@ -52,6 +55,15 @@ function-back MemProtectCheckRange32 = refl
 function-back MemProtectCheckRange64 = refl
 function-back SystemOff232 = refl
 function-back SystemOff264 = refl
+
+-- so no two functions have one number
+pub same-number : (f g : FunctionId) → functionNumber f ≡ functionNumber g → f ≡ g
+same-number f g e = same-accepted (sym (function-back f) ∙ ap readFunctionId e ∙ function-back g)
+
+-- and what a computed test finds of all functions holds of each
+pub every-function : (test : FunctionId → Bool) → every test functions ≡ true → (f : FunctionId) → test f ≡ true
+unfolding readFunctionId
+every-function test e f = every-chosen test functionNumber functions 1 (pos (functionNumber f)) (functionNumber f) f e (function-back f)
 
 pub function-id-laws : FunctionIdLaws
 unfolding readFunctionId

@@ -4,11 +4,12 @@ use mathlib.Core.Bool.{Bool, true, false, cond}
 use mathlib.Core.List.{List, [], _∷_}
 use Prim.Native.Nat.{ℕ}
 use lib.Dec.{eqb}
-use lib.IntN.{pos}
+use lib.IntN.{ℤ, pos}
 use borrow.Author.Tests.{ne-eqb, eqb-true}
+use Rattle.bits.proofs.Picks.{both-true}
 use Rattle.refusals.specs.Answers.{Answer, accepted, refused, choose}
 use Rattle.refusals.specs.Inverses.{WritesBack, ReadsBack, always}
-use Rattle.refusals.proofs.Answering.{not-accepted}
+use Rattle.refusals.proofs.Answering.{not-accepted, same-accepted}
 use Rattle.refusals.proofs.Inverting.{writes-always, reads-always}
 
 module _ {A : Type 0} (number : A → ℕ) (otherwise : Answer A) where
@@ -55,3 +56,24 @@ module _ {A : Type 0} (number : A → ℕ) (all : List A) (refusal : ℕ) where
 
   pub numbered-reads : (Value : A → Type 0) → ((a : A) → numbered (number a) ≡ accepted a) → ReadsBack Value (always number) numbered
   numbered-reads Value back = reads-always numbered number Value (λ a h. back a)
+
+-- ---- a test of all that can be chosen
+
+module _ {A : Type 0} (test : A → Bool) where
+  -- whether all of some things pass
+  abbrev pub every : List A → Bool
+  every [] = true
+  every (a ∷ rest) = cond (test a) (every rest) false
+
+  -- what is chosen among them passes
+  pub every-chosen : (number : A → ℕ) (all : List A) (refusal : ℕ) (value : ℤ) (key : ℕ) (b : A) → every all ≡ true →
+      choose number all (refused refusal value) key ≡ accepted b → test b ≡ true
+  every-chosen number [] refusal value key b e q = not-accepted q
+  every-chosen number (a ∷ rest) refusal value key b e q =
+      let both = both-true (test a) (every rest) e in
+      by-key (eqb key (number a)) (both .0) (λ r. every-chosen number rest refusal value key b (both .1) r) q
+    where
+      by-key : (t : Bool) → test a ≡ true → (choose number rest (refused refusal value) key ≡ accepted b → test b ≡ true) →
+          cond t (accepted a) (choose number rest (refused refusal value) key) ≡ accepted b → test b ≡ true
+      by-key true p later r = sym (ap test (same-accepted r)) ∙ p
+      by-key false p later r = later r
