@@ -1,3 +1,4 @@
+pub mod Apart
 pub mod DecodeLaws
 pub mod Elsewhere
 pub mod EncodeLaws

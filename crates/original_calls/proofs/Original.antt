@@ -1,12 +1,10 @@
 -- Demand 3 of the codec in the original format: what it accepts is written as the kept words. Assumes nothing.
 use mathlib.Core.Path.{_≡_, refl, sym, ap, _∙_, subst}
-use mathlib.Core.Bool.{Bool, true, false}
 use mathlib.Core.List.{List, [], _∷_, map}
 use Prim.Native.Nat.{ℕ}
 use native.Mathlib.Nat.{mod-mod}
-use lib.Dec.{eqb}
 use lib.ListN.{length, getD}
-use borrow.Author.Tests.{eqb-true, eqb-false, eq-eqb}
+use borrow.Author.Tests.{eq-eqb}
 use Rattle.refusals.specs.Answers.{Answer, accepted, through}
 use Rattle.refusals.proofs.Answering.{came-then, same-accepted}
 use Rattle.function_ids.specs.FunctionIds.{functionNumber}
@@ -27,6 +25,7 @@ use Rattle.original_calls.specs.OriginalCalls.{originalCallIn, originalD
 use Rattle.original_calls.specs.OriginalCodec.{original, Demand3OfOriginal}
 use Rattle.original_calls.specs.TwoFormats.{WithoutState}
 use Rattle.original_calls.specs.declared.original_function.OriginalFunction.{OriginalFunction}
+use Rattle.original_calls.proofs.Apart.{either-number}
 use Rattle.original_calls.proofs.DecodeLaws.{original-known, outside-by}
 use Rattle.original_calls.proofs.Elsewhere.{zeroState, with-zero, outside-other, encoded}
 use Rattle.original_calls.proofs.Rows.{fourWords, Writes, Row, suspend32, suspend64, residency32, residency64, count32, count64}
@@ -65,12 +64,7 @@ module _ (r : List ℕ) (f : OriginalFunction) (run : List ℕ) (h : Registers r
 
   which : (gs : List FunctionId) → Each gs → (NotAmong (map functionNumber gs) (numberIn r) → WrittenBack r f run) → WrittenBack r f run
   which [] rows none = none tt
-  which (g ∷ gs) rows none = tested (eqb (numberIn r) (functionNumber g)) refl (which gs (rows .1))
-    where
-      tested : (t : Bool) → eqb (numberIn r) (functionNumber g) ≡ t →
-          ((NotAmong (map functionNumber gs) (numberIn r) → WrittenBack r f run) → WrittenBack r f run) → WrittenBack r f run
-      tested true e later = by-row g (rows .0) (eqb-true (numberIn r) (functionNumber g) e)
-      tested false e later = later (λ o. none (eqb-false (numberIn r) (functionNumber g) e, o))
+  which (g ∷ gs) rows none = either-number g r (by-row g (rows .0)) (λ o. which gs (rows .1) (λ q. none (o, q)))
 
   writes : WrittenBack r f run
   writes =

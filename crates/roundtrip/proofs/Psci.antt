@@ -34,20 +34,27 @@ CallAt f n a b c = callOf f (valueIn (ruleOf n .fields) (n ∷ a ∷ b ∷ c ∷
 
 -- whichever part of r1 memory protect looks at
 module _ (protect : Part) where
-  number-law : (f : FunctionId) (n a b c : ℕ) → functionNumber f ≡ n →
-      FitsLook (lookBy protect n 1) a → FitsLook (lookBy protect n 2) b → FitsLook (lookBy protect n 3) c → WritesBackAs (CallAt f n a b c) (n ∷ a ∷ b ∷ c ∷ [])
-  number-law f n a b c e =
-      subst (λ (m : ℕ). FitsLook (lookBy protect m 1) a → FitsLook (lookBy protect m 2) b → FitsLook (lookBy protect m 3) c → WritesBackAs (CallAt f m a b c) (m ∷ a ∷ b ∷ c ∷ [])) e
-      (row-law protect f a b c)
+  -- what is so of the answer of each of the 35 rows and the words it is of, is so of what a register set is decoded to and the words kept of it
+  module _ (So : Answer Function → List ℕ → Type 0) (each : (f : FunctionId) (a b c : ℕ) →
+      FitsLook (lookBy protect (functionNumber f) 1) a → FitsLook (lookBy protect (functionNumber f) 2) b → FitsLook (lookBy protect (functionNumber f) 3) c →
+      So (CallAt f (functionNumber f) a b c) (functionNumber f ∷ a ∷ b ∷ c ∷ [])) where
+    number-law : (f : FunctionId) (n a b c : ℕ) → functionNumber f ≡ n →
+        FitsLook (lookBy protect n 1) a → FitsLook (lookBy protect n 2) b → FitsLook (lookBy protect n 3) c → So (CallAt f n a b c) (n ∷ a ∷ b ∷ c ∷ [])
+    number-law f n a b c e =
+        subst (λ (m : ℕ). FitsLook (lookBy protect m 1) a → FitsLook (lookBy protect m 2) b → FitsLook (lookBy protect m 3) c → So (CallAt f m a b c) (m ∷ a ∷ b ∷ c ∷ [])) e
+        (each f a b c)
+
+    pub by-rows : (r : List ℕ) (f : Function) → Registers r → decodeBy protect r ≡ accepted f → So (accepted f) (keptBy (lookBy protect) r)
+    unfolding decodeBy callIn
+    by-rows r f h d =
+        let kept = keptBy (lookBy protect) r in
+        let o = came-then (readFunctionId (numberIn r)) (λ id. callOf id (valueIn (ruleOf (numberIn r) .fields) kept)) f d in
+        subst (λ (x : Answer Function). So x kept) (o .1 .1)
+        (number-law (o .0) (numberIn r) _ _ _ (function-number (numberIn r) (o .0) (o .1 .0)) (fit (lookBy protect (numberIn r) 1) (getD r 1 0) (h .fits 1))
+        (fit (lookBy protect (numberIn r) 2) (getD r 2 0) (h .fits 2)) (fit (lookBy protect (numberIn r) 3) (getD r 3 0) (h .fits 3)))
 
   writes : (r : List ℕ) (f : Function) → Registers r → decodeBy protect r ≡ accepted f → wordsOf f ≡ accepted (keptBy (lookBy protect) r)
-  unfolding decodeBy callIn
-  writes r f h d =
-      let kept = keptBy (lookBy protect) r in
-      let o = came-then (readFunctionId (numberIn r)) (λ id. callOf id (valueIn (ruleOf (numberIn r) .fields) kept)) f d in
-      subst (λ (x : Answer Function). WritesBackAs x kept) (o .1 .1)
-      (number-law (o .0) (numberIn r) _ _ _ (function-number (numberIn r) (o .0) (o .1 .0)) (fit (lookBy protect (numberIn r) 1) (getD r 1 0) (h .fits 1))
-      (fit (lookBy protect (numberIn r) 2) (getD r 2 0) (h .fits 2)) (fit (lookBy protect (numberIn r) 3) (getD r 3 0) (h .fits 3)))
+  writes r f h d = by-rows WritesBackAs (row-law protect) r f h d
 
   written-by : (r : List ℕ) (f : Function) (run : List ℕ) → Registers r → length run ≡ 4 → decodeBy protect r ≡ accepted f →
       encodeOf f run ≡ accepted (keptBy (lookBy protect) r)
