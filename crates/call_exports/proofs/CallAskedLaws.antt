@@ -1,15 +1,14 @@
 -- The call of a tag, and words that are those of a call. Assumes nothing.
 use mathlib.Core.Path.{_≡_, sym, ap, _∙_}
-use mathlib.Core.Bool.{true, false}
 use mathlib.Core.List.{List}
 use Prim.Native.Nat.{ℕ}
-use lib.Dec.{eqb}
 use lib.IntN.{ℤ, pos}
 use Rattle.refusals.specs.Answers.{Answer, accepted, refused, through, andThen}
 use Rattle.refusals.proofs.Choosing.{NoneOf, none-chosen}
 use Rattle.function.specs.declared.Function.{Function}
-use Rattle.call_exports.specs.PlainWords.{differing, ofParts}
+use Rattle.call_exports.specs.PlainWords.{ofParts}
 use Rattle.call_exports.specs.CallAsked.{Tagged, calls, callAt}
+use Rattle.call_exports.proofs.SameWords.{equal-same, other-same}
 
 module _ (c : List ℕ) where
   -- what an arm of the `match` over the tags gives
@@ -26,13 +25,13 @@ module _ {A : Type 0} (words : A → List ℕ) (c : List ℕ) (found : Answer A)
   abbrev pub OwnWords : Answer A
   OwnWords = andThen found (λ f. ofParts c (words f) (accepted f))
 
-  pub own-words : {f : A} → found ≡ accepted f → eqb (differing c (words f)) 0 ≡ true → accepted f ≡ OwnWords
+  pub own-words : {f : A} → found ≡ accepted f → c ≡ words f → accepted f ≡ OwnWords
   unfolding ofParts
-  own-words e same = simp (e, same)
+  own-words {f} e own = simp (e, equal-same c (words f) own)
 
-  pub other-words : {f : A} → found ≡ accepted f → eqb (differing c (words f)) 0 ≡ false → refused 1003 (pos 0) ≡ OwnWords
+  pub other-words : {f : A} → found ≡ accepted f → (c ≡ words f → ⊥) → refused 1003 (pos 0) ≡ OwnWords
   unfolding ofParts
-  other-words e other = simp (e, other)
+  other-words {f} e other = simp (e, other-same c (words f) other)
 
   pub none-found : {number : ℕ} {value : ℤ} → found ≡ refused number value → refused number value ≡ OwnWords
   none-found e = simp e

@@ -1,3 +1,4 @@
 pub mod CallAskedLaws
 pub mod ExportLaws
 pub mod PickLaws
+pub mod SameWords

@@ -1,6 +1,6 @@
 // Plain words: their low bits, and nine of them compared.
 ghost use mathlib.Core.Path.{_≡_};
-ghost use Rattle.call_exports.specs.PlainWords.{low, half, byte, differing};
+ghost use Rattle.call_exports.specs.PlainWords.{low, half, byte};
 
 // The low 32 bits.
 pub fn low32(part: u64) -> u32
@@ -23,9 +23,9 @@ pub fn low8(part: u64) -> u8
     (part % 0x100) as u8
 }
 
-// The bits in which two runs of nine words differ.
+// The bits in which two runs of nine words differ: 0 exactly where they are equal.
 pub fn differing_bits(c: [u64; 9], d: [u64; 9]) -> u64
-    ensures { λ r. ⌜ r ≡ differing c d ⌝ }
+    ensures { λ r. ⌜ (r ≡ 0 → c ≡ d) × (c ≡ d → r ≡ 0) ⌝ }
 {
     (c[0] ^ d[0])
         | (c[1] ^ d[1])

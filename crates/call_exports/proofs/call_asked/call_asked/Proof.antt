@@ -2,8 +2,6 @@
 -- Assumes nothing.
 use mathlib.Core.Path.{sym, ap, _∙_}
 use borrow.Author.Needs.{needs}
-use borrow.Author.Tests.{eq-eqb, ne-eqb}
-use Rattle.call_exports.specs.PlainWords.{differing}
 use Rattle.call_exports.specs.CallWords.{callWords}
 use Rattle.call_exports.specs.CallAsked.{callAsked, askedAnswer}
 use Rattle.call_exports.proofs.CallAskedLaws.{own-words, other-words, none-found}
@@ -15,14 +13,14 @@ unfolding callAsked
 returns c =
     own-words callWords _ _
     (sym (c .before .before .before .before .before .before .call-at .ensures) ∙ ap askedAnswer (c .before .before .before .before .function .given .1))
-    (eq-eqb _ _ (sym (c .before .differing-bits .ensures ∙ ap (differing _) (c .before .before .call-words .ensures)) ∙ c .if1 .taken))
+    (c .before .differing-bits .ensures .0 (c .if1 .taken) ∙ c .before .before .call-words .ensures)
 
 returns-2 : tie.Need-returns-2
 unfolding callAsked
 returns-2 c =
     other-words callWords _ _
     (sym (c .before .before .before .before .before .before .call-at .ensures) ∙ ap askedAnswer (c .before .before .before .before .function .given .1))
-    (ne-eqb _ _ (λ q. c .if1 .left (c .before .differing-bits .ensures ∙ ap (differing _) (c .before .before .call-words .ensures) ∙ q)))
+    (λ q. c .if1 .left (c .before .differing-bits .ensures .1 (q ∙ sym (c .before .before .call-words .ensures))))
 
 pub call-asked-spec : {M : Type 1} → statement M
 unfolding callAsked

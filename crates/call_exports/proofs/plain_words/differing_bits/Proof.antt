@@ -1,13 +1,11 @@
 -- `call_exports::plain_words::differing_bits` meets its contract.
 -- Assumes nothing.
-use mathlib.Core.Path.{refl}
 use borrow.Author.Needs.{needs}
-use Rattle.call_exports.specs.PlainWords.{differing}
+use Rattle.call_exports.proofs.SameWords.{none-differ, differ-none}
 use Rattle.call_exports.proofs.plain_words.differing_bits.Statement.{statement}
 use Rattle.call_exports.proofs.plain_words.differing_bits.Tie as tie
 
 pub differing-bits-spec : {M : Type 1} → statement M
-unfolding differing
 differing-bits-spec =
     tie.close
     (tie.spec
@@ -29,4 +27,4 @@ differing-bits-spec =
     (λ c. search needs)
     (λ c. search needs)
     (λ c. search needs)
-    (λ c. refl))
+    (λ c. (none-differ _ _ (search needs) (search needs), differ-none _ _)))

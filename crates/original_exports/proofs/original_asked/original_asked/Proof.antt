@@ -1,8 +1,6 @@
 -- `original_exports::original_asked::original_asked` meets its contract. Assumes nothing.
 use mathlib.Core.Path.{sym, ap, _∙_}
 use borrow.Author.Needs.{needs}
-use borrow.Author.Tests.{eq-eqb, ne-eqb}
-use Rattle.call_exports.specs.PlainWords.{differing}
 use Rattle.call_exports.proofs.CallAskedLaws.{own-words, other-words, none-found}
 use Rattle.original_exports.specs.OriginalWords.{originalWords}
 use Rattle.original_exports.specs.OriginalAsked.{originalAsked, originalAskedAnswer}
@@ -14,14 +12,14 @@ unfolding originalAsked
 returns c =
     own-words originalWords _ _
     (sym (c .before .before .before .before .before .before .original-at .ensures) ∙ ap originalAskedAnswer (c .before .before .before .before .function .given .1))
-    (eq-eqb _ _ (sym (c .before .differing-bits .ensures ∙ ap (differing _) (c .before .before .original-words .ensures)) ∙ c .if1 .taken))
+    (c .before .differing-bits .ensures .0 (c .if1 .taken) ∙ c .before .before .original-words .ensures)
 
 returns-2 : tie.Need-returns-2
 unfolding originalAsked
 returns-2 c =
     other-words originalWords _ _
     (sym (c .before .before .before .before .before .before .original-at .ensures) ∙ ap originalAskedAnswer (c .before .before .before .before .function .given .1))
-    (ne-eqb _ _ (λ q. c .if1 .left (c .before .differing-bits .ensures ∙ ap (differing _) (c .before .before .original-words .ensures) ∙ q)))
+    (λ q. c .if1 .left (c .before .differing-bits .ensures .1 (q ∙ sym (c .before .before .original-words .ensures))))
 
 pub original-asked-spec : {M : Type 1} → statement M
 unfolding originalAsked
