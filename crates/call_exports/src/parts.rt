@@ -3,7 +3,7 @@ ghost use mathlib.Core.Path.{_≡_};
 ghost use Rattle.function.specs.Forms.{entryForm, cookieForm, rangeForm, mpidrForm};
 ghost use Rattle.words.specs.Mpidrs.{aff3Number};
 ghost use mathlib.Core.List.{_∷_, [], _++_};
-ghost use Rattle.call_exports.specs.Parts.{nine, mpidrParts, entryParts, formPart, downPart, stateId, vendorPart, vendorType, smcccPart, featurePlace};
+ghost use Rattle.call_exports.specs.Parts.{nine, valuesOf, mpidrParts, entryParts, formPart, downPart, stateId, vendorPart, vendorType, smcccPart, featurePlace};
 use crate::places::function_place;
 use words::Aff3;
 use words::Cookie;
@@ -156,7 +156,7 @@ pub fn three(tag: u64, a: u64, b: u64, c: u64) -> [u64; 9]
 
 // A tag, the parts of an MPIDR and up to three more as nine words.
 pub fn mpidr_and(tag: u64, mpidr: Mpidr, a: u64, b: u64, c: u64) -> [u64; 9]
-    ensures { λ r. ⌜ r ≡ nine (tag ∷ mpidrParts mpidr ++ a ∷ b ∷ c ∷ []) ⌝ }
+    ensures { λ r. ⌜ r ≡ nine (tag ∷ valuesOf (mpidrParts mpidr) ++ a ∷ b ∷ c ∷ []) ⌝ }
 {
     [
         tag,
@@ -173,7 +173,7 @@ pub fn mpidr_and(tag: u64, mpidr: Mpidr, a: u64, b: u64, c: u64) -> [u64; 9]
 
 // A tag and the parts of an entry point as nine words.
 pub fn entry_of(tag: u64, entry: EntryPoint) -> [u64; 9]
-    ensures { λ r. ⌜ r ≡ nine (tag ∷ entryParts entry) ⌝ }
+    ensures { λ r. ⌜ r ≡ nine (tag ∷ valuesOf (entryParts entry)) ⌝ }
 {
     three(
         tag,
