@@ -1,4 +1,8 @@
 pub mod CallAskedLaws
+pub mod DecodedFit
 pub mod ExportLaws
+pub mod NineWords
+pub mod OwnParts
+pub mod OwnWords
 pub mod PickLaws
 pub mod SameWords

@@ -12,6 +12,10 @@ use Rattle.call_exports.specs.CallAsked.{callAsked}
 abbrev pub stored : List ℕ → List ℕ → List ℕ
 stored words run = cond (eqb (length run) 9) words run
 
--- the call that nine words stand for, written into a run
+-- the call that nine words ask for, written into a run: its refusals first, then those of encoding; of any calls that have nine words
+abbrev pub encodeAsked : {Call : Type 0} → (List ℕ → Answer Call) → (Call → List ℕ → Answer (List ℕ)) → List ℕ → List ℕ → Answer (List ℕ)
+encodeAsked asked encode words run = andThen (asked words) (λ f. encode f run)
+
+-- of document 01's calls
 abbrev pub encodeWords : List ℕ → List ℕ → Answer (List ℕ)
-encodeWords c run = andThen (callAsked c) (λ f. encodeOf f run)
+encodeWords words run = encodeAsked callAsked encodeOf words run

@@ -2,6 +2,7 @@ pub mod CallAsked
 pub mod CallWords
 pub mod Exports
 pub mod FromParts
+pub mod NineWords
 pub mod Parts
 pub mod Places
 pub mod PlainWords

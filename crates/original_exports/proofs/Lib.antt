@@ -1,1 +1,2 @@
 pub mod OriginalAskedLaws
+pub mod OriginalNineWords

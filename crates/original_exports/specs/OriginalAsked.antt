@@ -10,6 +10,7 @@ use Rattle.words.specs.declared.original_power_states.OriginalPowerState.{Origi
 use Rattle.call_exports.specs.PlainWords.{half, byte, ofParts}
 use Rattle.call_exports.specs.FromParts.{entryIn}
 use Rattle.call_exports.specs.CallAsked.{callAt}
+use Rattle.call_exports.specs.Exports.{encodeAsked}
 use Rattle.original_calls.specs.OriginalFunctions.{withState}
 use Rattle.original_calls.specs.OriginalCalls.{originalEncodeOf}
 use Rattle.original_calls.specs.declared.original_function.OriginalFunction.{OriginalFunction}
@@ -41,4 +42,4 @@ originalAskedAnswer WrongPart = refused 1003 (pos 0)
 
 -- the call that nine words stand for, written into a run
 abbrev pub encodeOriginalWords : List ℕ → List ℕ → Answer (List ℕ)
-encodeOriginalWords c run = andThen (originalAsked c) (λ f. originalEncodeOf f run)
+encodeOriginalWords words run = encodeAsked originalAsked originalEncodeOf words run

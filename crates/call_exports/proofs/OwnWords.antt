@@ -1,0 +1,76 @@
+-- The words of a call whose parts fit their places ask for that call, and only they do. Assumes nothing.
+use mathlib.Core.Path.{_≡_, refl, ap, _∙_}
+use mathlib.Core.Bool.{Bool, true, false, cond}
+use mathlib.Core.List.{List, [], _∷_}
+use Prim.Native.Nat.{ℕ}
+use lib.IntN.{pos}
+use lib.ListN.{getD}
+use Rattle.refusals.specs.Answers.{Answer, accepted, refused, andThen}
+use Rattle.refusals.proofs.Answering.{came-then, not-accepted, same-accepted}
+use Rattle.words.specs.declared.system_off2_types.SystemOff2Type.the-variants.{HibernateOff}
+use Rattle.function.specs.declared.Function.{Function}
+use Rattle.function.specs.declared.Function.the-variants as call
+use Rattle.call_exports.specs.PlainWords.{same, ofParts}
+use Rattle.call_exports.specs.Parts.{_within_, Fit, mpidrParts, powerStateParts, entryParts, cookieParts, resetTypeParts}
+use Rattle.call_exports.specs.CallWords.{callParts, callWords}
+use Rattle.call_exports.specs.CallAsked.{callAt, callAsked}
+use Rattle.call_exports.proofs.SameWords.{same-own, same-equal}
+use Rattle.call_exports.proofs.OwnParts.{of-both, mpidr-own, power-state-own, level-own, entry-own, cookie-own, range-own, reset-type-own, feature-own, mode-own, flag-own}
+
+-- ---- of any calls that have nine words: what is found at the tag, if the words are its own
+
+module _ {A : Type 0} (words : A → List ℕ) (at : List ℕ → Answer A) where
+  -- words are taken for the call that is found, if they are its own
+  abbrev pub TakenFor : List ℕ → Answer A
+  TakenFor c = andThen (at c) (λ f. ofParts c (words f) (accepted f))
+
+  pub own-taken : (f : A) → at (words f) ≡ accepted f → TakenFor (words f) ≡ accepted f
+  unfolding ofParts
+  own-taken f e = simp (e, same-own (words f))
+
+  pub only-own : (c : List ℕ) (f : A) → TakenFor c ≡ accepted f → c ≡ words f
+  unfolding ofParts
+  only-own c f e =
+      let o = came-then (at c) (λ g. ofParts c (words g) (accepted g)) f e in
+      by-test (o .0) (same c (words (o .0))) refl (o .1 .1)
+    where
+      by-test : (g : A) (t : Bool) → same c (words g) ≡ t → cond t (accepted g) (refused 1003 (pos 0)) ≡ accepted f → c ≡ words f
+      by-test g true s r = same-equal c (words g) s ∙ ap words (same-accepted r)
+      by-test g false s r = not-accepted r
+
+-- ---- document 01's calls
+
+-- the call at the tag of a call's own words
+pub found : (f : Function) → Fit (callParts f) → callAt (callWords f) (getD (callWords f) 0 0) ≡ accepted f
+unfolding callAt callWords
+found call.Version h = refl
+found (call.CpuSuspend state entry) h = ap accepted (of-both call.CpuSuspend (powerStateParts state) (entryParts entry) (h .1) (power-state-own state) (entry-own entry))
+found call.CpuOff h = refl
+found (call.CpuOn mpidr entry) h = ap accepted (of-both call.CpuOn (mpidrParts mpidr) (entryParts entry) (h .1) (mpidr-own mpidr) (entry-own entry))
+found (call.AffinityInfo mpidr level) h = ap accepted (of-both call.AffinityInfo (mpidrParts mpidr) (level within 32 ∷ []) (h .1) (mpidr-own mpidr) (level-own level))
+found (call.Migrate mpidr) h = ap accepted (ap call.Migrate (mpidr-own mpidr (h .1)))
+found call.MigrateInfoType h = refl
+found (call.MigrateInfoUpCpu is32bit) h = ap accepted (ap call.MigrateInfoUpCpu (flag-own is32bit))
+found call.SystemOff h = refl
+found (call.SystemOff2 HibernateOff cookie) h = ap accepted (ap (call.SystemOff2 HibernateOff) (cookie-own cookie (h .1 .1)))
+found call.SystemReset h = refl
+found (call.SystemReset2 resetType cookie) h =
+    ap accepted (of-both call.SystemReset2 (resetTypeParts resetType) (cookieParts cookie) (h .1) (reset-type-own resetType) (cookie-own cookie))
+found (call.MemProtect enabled) h = ap accepted (ap call.MemProtect (flag-own enabled))
+found (call.MemProtectCheckRange range) h = ap accepted (ap call.MemProtectCheckRange (range-own range (h .1)))
+found (call.Features feature) h = ap accepted (ap call.Features (feature-own feature))
+found call.CpuFreeze h = refl
+found (call.CpuDefaultSuspend entry) h = ap accepted (ap call.CpuDefaultSuspend (entry-own entry (h .1)))
+found (call.NodeHwState mpidr level) h = ap accepted (of-both call.NodeHwState (mpidrParts mpidr) (level within 32 ∷ []) (h .1) (mpidr-own mpidr) (level-own level))
+found (call.SystemSuspend entry) h = ap accepted (ap call.SystemSuspend (entry-own entry (h .1)))
+found (call.SetSuspendMode mode) h = ap accepted (ap call.SetSuspendMode (mode-own mode))
+found (call.StatResidency mpidr state) h = ap accepted (of-both call.StatResidency (mpidrParts mpidr) (powerStateParts state) (h .1) (mpidr-own mpidr) (power-state-own state))
+found (call.StatCount mpidr state) h = ap accepted (of-both call.StatCount (mpidrParts mpidr) (powerStateParts state) (h .1) (mpidr-own mpidr) (power-state-own state))
+
+pub own-call : (f : Function) → Fit (callParts f) → callAsked (callWords f) ≡ accepted f
+unfolding callAsked
+own-call f h = own-taken callWords (λ c. callAt c (getD c 0 0)) f (found f h)
+
+pub only-call : (c : List ℕ) (f : Function) → callAsked c ≡ accepted f → c ≡ callWords f
+unfolding callAsked
+only-call c f e = only-own callWords (λ d. callAt d (getD d 0 0)) c f e
