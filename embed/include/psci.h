@@ -225,9 +225,8 @@ struct psci_refusal psci_decode(const uint64_t regs[PSCI_REGISTERS], uint64_t ca
 struct psci_refusal psci_decode_smccc(const uint64_t regs[PSCI_REGISTERS], uint64_t call[PSCI_CALL_WORDS]);
 
 /* The four words of a call: its function number, its fields in their registers, all other bits zero. Accepted: all four words of out are
- * written. Refused, 1002, 1003, 14, 15 or 31: out is left as it was. Words that a decoder gave were never refused in any run; that they can't be
- * is not proved of the nine words. psci_recode and psci_recode_smccc, which hand over no words, are proved to refuse what their decoder refuses
- * and nothing else. */
+ * written. Refused, 1002, 1003, 14, 15 or 31: out is left as it was. Words that psci_decode or psci_decode_smccc gave are never refused, and the four
+ * words are then those of psci_recode or psci_recode_smccc: both are proved. */
 struct psci_refusal psci_encode(const uint64_t call[PSCI_CALL_WORDS], uint64_t out[PSCI_REGISTERS]);
 
 /* Decodes four registers and encodes the call: what is left are the function number and its fields. Accepted: all four words of out are
@@ -244,8 +243,8 @@ struct psci_refusal psci_recode_smccc(const uint64_t regs[PSCI_REGISTERS], uint6
 struct psci_refusal psci_decode_original(const uint64_t regs[PSCI_REGISTERS], uint64_t call[PSCI_CALL_WORDS]);
 
 /* The four words of a call of the original format: its function number, its fields in their registers, all other bits zero. Accepted: all four
- * words of out are written. Refused, 1002, 1003, 14, 27 or 31: out is left as it was. Words that psci_decode_original gave were never refused in any
- * run; that they can't be is not proved of the nine words. */
+ * words of out are written. Refused, 1002, 1003, 14, 27 or 31: out is left as it was. Words that psci_decode_original gave are never refused, and the
+ * four words are then those of psci_recode_original: both are proved. */
 struct psci_refusal psci_encode_original(const uint64_t call[PSCI_CALL_WORDS], uint64_t out[PSCI_REGISTERS]);
 
 /* Decodes four registers by psci_decode_original and encodes the call by psci_encode_original. Accepted: all four words of out are written.
