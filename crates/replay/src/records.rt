@@ -4,6 +4,7 @@ use call_exports::parts::wide32;
 use call_exports::plain_words::differing_bits;
 use refusals::Error;
 use refusals::WordResult;
+use refusals::told::Refusal;
 
 // Refusals of the record itself, beside the papers': an operation that there is not, a tag that no call has, and a part that has no room
 // in its place.
@@ -41,10 +42,10 @@ pub(crate) fn refused(w: [u64; 16], error: Error) -> [u64; 16] {
     turned_back(w, error.number(), error.value())
 }
 
-// Accepted, with nine words for the answer.
-pub(crate) fn given(w: [u64; 16], c: [u64; 9]) -> [u64; 16] {
+// A record of its parts.
+fn made(op: u64, c: [u64; 9], regs: [u64; 4], number: u64, carried: u64) -> [u64; 16] {
     [
-        w[0],
+        op,
         c[0],
         c[1],
         c[2],
@@ -54,23 +55,23 @@ pub(crate) fn given(w: [u64; 16], c: [u64; 9]) -> [u64; 16] {
         c[6],
         c[7],
         c[8],
-        w[10],
-        w[11],
-        w[12],
-        w[13],
-        0,
-        0,
+        regs[0],
+        regs[1],
+        regs[2],
+        regs[3],
+        number,
+        carried,
     ]
 }
 
-// Accepted, with four registers for the answer.
-pub(crate) fn written(w: [u64; 16], regs: [u64; 4]) -> [u64; 16] {
-    let mut answer = turned_back(w, 0, 0);
-    answer[10] = regs[0];
-    answer[11] = regs[1];
-    answer[12] = regs[2];
-    answer[13] = regs[3];
-    answer
+// What an exported function told, also of a success, and what it was lent, as it is afterwards.
+pub(crate) fn told_record(w: [u64; 16], c: [u64; 9], regs: [u64; 4], told: Refusal) -> [u64; 16] {
+    made(w[0], c, regs, told.number, told.carried)
+}
+
+// Accepted, with nine words for the answer.
+pub(crate) fn given(w: [u64; 16], c: [u64; 9]) -> [u64; 16] {
+    made(w[0], c, regs_in(w), 0, 0)
 }
 
 // Accepted, with one word for the answer.
