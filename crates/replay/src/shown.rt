@@ -4,22 +4,39 @@ use crate::records::UNKNOWN_TAG;
 use crate::records::WRONG_PART;
 use crate::records::is_to_registers;
 use crate::records::nine_in;
+use crate::records::regs_in;
+use crate::records::told_record;
 use call_exports::call_asked::Asked;
 use call_exports::call_asked::call_asked;
+use call_exports::psci_recode;
+use call_exports::psci_recode_smccc;
 use call_log::big_endian::byte_at;
 use encode::EncodeResult;
+use line_exports::Written;
+use line_exports::psci_line;
 use original_exports::original_asked::OriginalAsked;
 use original_exports::original_asked::original_asked;
+use original_exports::psci_recode_original;
+use refusals::told::Refusal;
 
-// Operations that only a labelled record has: a heading, which is a label alone; and a call written to a lent run, whose length is word 15, by
-// document 01 or with an original power state.
+// Operations that only a labelled record has: a heading, which is a label alone; a call written to a lent run, whose length is word 15, by
+// document 01 or with an original power state; and, each by the function that is exported to C, the three recodes of four registers and the line of a
+// record, whose number is word 1.
 const HEADING: u64 = 1000;
 
 const LENT: u64 = 1001;
 
 const LENT_ORIGINAL: u64 = 1002;
 
-// What a lent run holds before a call is written to it.
+const RECODE: u64 = 1003;
+
+const RECODE_SMCCC: u64 = 1004;
+
+const RECODE_ORIGINAL: u64 = 1005;
+
+const LINE: u64 = 1006;
+
+// What lent words hold before a call is written to them.
 const PATTERN: u64 = 0xa5a5;
 
 fn space() {
@@ -100,14 +117,49 @@ fn show_lent_original(w: [u64; 16]) {
     show_words(run, 0, 5);
 }
 
+fn recoded(op: u64, regs: [u64; 4], out: &mut [u64; 4]) -> Refusal {
+    match op {
+        RECODE => psci_recode(&regs, out),
+        RECODE_SMCCC => psci_recode_smccc(&regs, out),
+        _ => psci_recode_original(&regs, out),
+    }
+}
+
+fn show_recoded(w: [u64; 16]) {
+    let regs = regs_in(w);
+    let mut out = [PATTERN; 4];
+    let told = recoded(w[0], regs, &mut out);
+    show_answer(told_record(w, nine_in(w), out, told));
+}
+
+// What is told of a line, and below it all lent bytes.
+fn show_written(told: Written, lent: &[u8; 80]) {
+    if told.number == 0 {
+        io::write_all(1, b": length ");
+        io::print_decimal(1, told.value);
+    } else {
+        show_refusal(told.number, told.value);
+    }
+    new_line();
+    io::write_all(1, lent);
+}
+
+fn show_line(w: [u64; 16]) {
+    let number = w[1] as usize;
+    let regs = regs_in(w);
+    let mut out = [b'.'; 80];
+    let told = psci_line(number, &regs, &mut out);
+    show_written(told, &out);
+}
+
 pub(crate) fn show_case(w: [u64; 16]) {
-    let op = w[0];
-    if op == LENT {
-        show_lent(w);
-    } else if op == LENT_ORIGINAL {
-        show_lent_original(w);
-    } else if op != HEADING {
-        show_answer(answer(w));
+    match w[0] {
+        HEADING => {}
+        LENT => show_lent(w),
+        LENT_ORIGINAL => show_lent_original(w),
+        RECODE | RECODE_SMCCC | RECODE_ORIGINAL => show_recoded(w),
+        LINE => show_line(w),
+        _ => show_answer(answer(w)),
     }
     new_line();
 }
