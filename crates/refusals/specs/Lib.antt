@@ -1,4 +1,5 @@
 pub mod Answers
+pub mod ErrorLaws
 pub mod Errors
 pub mod Inverses
 pub mod Lent
