@@ -13,7 +13,8 @@ use mir.Val.{bits, hbits, toZ, ofZ, Fits, SFits}
 use mir.Facts.{toZ-pos, toZ-ofZ}
 use borrow.Author.Tests.{lt-ltb, le-ltb, ltb-true, ltb-false}
 use Rattle.bits.specs.Signs.{signed, wordOf, fitsIn}
-use Rattle.bits.proofs.Picks.{if-true, if-false}
+use Rattle.bits.specs.SignLaws.{SignLaws}
+use Rattle.bits.proofs.Picks.{if-true, if-false, choice}
 
 module _ (w : Width) (double : 2 ^ hbits w + 2 ^ hbits w ≡ 2 ^ bits w) where
   -- ---- from a word of the upper half to its number: take off half, and add the lowest number
@@ -127,8 +128,10 @@ beyond j k word lo hi = by-half (ltb (word * 2) (2 ^ k)) refl
         let l : 2 ^ j ≤ (2 ^ k - suc word) * 2 = omega arith in
         le-ltb ((2 ^ k - suc word) * 2) (2 ^ j) l
 
--- ---- the sign fact, over the width: a number that fits is read back from its word, and a word from its number
-pub signed-back : (k : ℕ) (z : ℤ) → fitsIn (suc k) z ≡ true → z ≡ signed (suc k) (wordOf (suc k) z)
+-- ---- the sign facts, over the width
+
+-- a number that fits is read back from its word
+signed-back : (k : ℕ) (z : ℤ) → fitsIn (suc k) z ≡ true → z ≡ signed (suc k) (wordOf (suc k) z)
 signed-back k (pos n) fit = signed-low (suc k) n (ltb-true (n * 2) (2 ^ suc k) fit)
 signed-back k (negsuc n) fit =
     let p : 2 ^ suc k ≡ 2 ^ k * 2 = pow-suc 2 k in
@@ -136,9 +139,8 @@ signed-back k (negsuc n) fit =
     let e : 2 ^ suc k - suc (2 ^ suc k - suc n) ≡ n = omega arith in
     ap negsuc (sym e) ∙ signed-high (suc k) (2 ^ suc k - suc n) (omega arith)
 
-pub word-back : (k word : ℕ) → word < 2 ^ k → wordOf k (signed k word) ≡ word
-word-back k word h = by-half (ltb (word * 2) (2 ^ k))
-  where
-    by-half : (t : Bool) → wordOf k (cond t (pos word) (negsuc (2 ^ k - suc word))) ≡ word
-    by-half true = refl
-    by-half false = omega arith
+pub sign-laws : SignLaws
+sign-laws = record {
+  signed-back = signed-back;
+  word-back = λ k word h. choice (λ (z : ℤ). wordOf k z ≡ word) (ltb (word * 2) (2 ^ k)) (λ t. refl) (λ t. omega arith);
+}

@@ -9,7 +9,7 @@ use lib.Signed.{mag}
 use borrow.Author.Tests.{eqb-true, ne-eqb, lt-ltb}
 use Rattle.bits.specs.Signs.{signed, wordOf, fitsIn}
 use Rattle.bits.proofs.Picks.{if-true, if-false}
-use Rattle.bits.proofs.TwosComplement.{signed-back, word-back}
+use Rattle.bits.proofs.TwosComplement.{sign-laws}
 use Rattle.refusals.specs.Answers.{Answer, accepted, refused, through}
 use Rattle.refusals.specs.Inverses.{WritesBack, ReadsBack, always, Any}
 use Rattle.refusals.proofs.Answering.{not-accepted, handed-on, at-once-or-through}
@@ -90,13 +90,13 @@ module _ (k : ℕ) (read : ℤ → Answer ErrorCode) where
   unfolding read-word write-word
   word-writes is =
       writes-always read-word write-word (λ (word : ℕ). word < 2 ^ suc k)
-      (λ word c h q. ap (wordOf (suc k)) (is (signed (suc k) word) c q) ∙ word-back (suc k) word h)
+      (λ word c h q. ap (wordOf (suc k)) (is (signed (suc k) word) c q) ∙ sign-laws .word-back (suc k) word h)
 
   word-reads : 2 ^ 32 ≤ 2 ^ suc k → ((c : ErrorCode) → read (codeNumber c) ≡ accepted c) → ReadsBack Any (always write-word) read-word
   unfolding read-word write-word
   word-reads wide back =
       reads-always read-word write-word Any
-      (λ c h. ap read (sym (signed-back k (codeNumber c) (code-fits (suc k) wide c))) ∙ back c)
+      (λ c h. ap read (sym (sign-laws .signed-back k (codeNumber c) (code-fits (suc k) wide c))) ∙ back c)
 
 pub code-laws : CodeLaws
 unfolding read-word write-word
