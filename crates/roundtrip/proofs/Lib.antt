@@ -1,6 +1,7 @@
 pub mod Bits
 pub mod Cases
 pub mod Demand3
+pub mod InsideLaws
 pub mod Psci
 pub mod Recoding
 pub mod Rows

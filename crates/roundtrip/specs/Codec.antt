@@ -1,12 +1,13 @@
--- Demand 3, about any codec, in the terms of document 01, "The four written words". It is stated here and proved in proofs/Demand3.antt.
+-- Demand 3, about any codec, in the terms of document 01, "The four written words". It is stated here and proved in proofs/Demand3.antt, the law of
+-- what is inside in proofs/InsideLaws.antt.
 use mathlib.Core.Path.{_≡_}
 use mathlib.Core.List.{List}
 use mathlib.Core.Logic.{_⊎_}
-use Prim.Native.Nat.{ℕ, _/_, _%_, _^_, _<_}
+use Prim.Native.Nat.{ℕ, zero, suc, _/_, _%_, _^_, _<_}
 use lib.ListN.{length, getD}
 use Rattle.refusals.specs.Answers.{Answer, accepted}
 use Rattle.refusals.specs.Lent.{left}
-use Rattle.function_ids.specs.CallTable.{Part, lowHalf, whole, partOf, Look, nothing, value, zeroOrNot, numberIn}
+use Rattle.function_ids.specs.CallTable.{Part, lowHalf, whole, partOf, Look, nothing, value, zeroOrNot, keep, numberIn}
 
 -- A codec: its typed calls, what decoding gives for four registers, what encoding gives for a call and a lent run, and what is looked at
 -- in register 1, 2 or 3 under a function number: its listed field there.
@@ -50,6 +51,17 @@ module _ (c : Codec) where
   -- bit j of register i is in the low half of r0, or in a field listed for the function number; outside is every other bit
   abbrev pub Inside : ℕ → ℕ → ℕ → Type 0
   Inside number i j = ((i ≡ 0) × (j < 32)) ⊎ ((0 < i) × InField (c .look number i) j)
+
+  -- what is kept of a register: of r0 its low half, the function number; of another what is looked at in it
+  abbrev pub keptOf : ℕ → ℕ → ℕ → ℕ
+  keptOf number zero word = word % 2 ^ 32
+  keptOf number (suc i) word = keep (c .look number (suc i)) word
+
+  pub record InsideLaws : Type 0 where
+    -- no bit is inside but those that are looked at: what is kept of a register in which such a bit alone is set is not 0
+    pub looked-at : (number i j : ℕ) → Inside number i j → 0 < keptOf number i (2 ^ j)
+    -- so a register in which nothing is looked at has no bit inside
+    pub none : (number i j : ℕ) → 0 < i → c .look number i ≡ nothing → Inside number i j → ⊥
 
   -- a call's four words: what encoding leaves in a lent run of four numbers
   abbrev pub wordsIn : c .Call → List ℕ → List ℕ
