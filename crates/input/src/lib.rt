@@ -1,6 +1,9 @@
 // Reading of input that tells its end from a read that failed.
+ghost use mathlib.Core.Path.{_≡_};
+ghost use mathlib.Core.Bool.{true};
 ghost use Prim.Native.Nat.{_≤_};
 ghost use lib.ListN.{length};
+ghost use Rattle.input.specs.Reading.{Reading};
 
 // How many bytes were read, and whether a read failed after them.
 pub struct Input {
@@ -11,7 +14,7 @@ pub struct Input {
 // One read to the lent bytes from a place on: the place after what it put there, and whether it failed.
 fn read_from(fd: i32, buf: &mut [u8], from: usize) -> Input
     requires { ⌜ from ≤ length (now buf) ⌝ }
-    ensures { λ r. ⌜ (from ≤ r .size) × (r .size ≤ length (now (buf .entry))) ⌝ }
+    ensures { λ r. ⌜ (from ≤ r .size) × (r .size ≤ length (now (buf .entry))) × (r .failed ≡ true → r .size ≡ from) ⌝ }
 {
     let rest = &mut buf[from..];
     let got = libc::read(fd, rest);
@@ -23,9 +26,9 @@ fn read_from(fd: i32, buf: &mut [u8], from: usize) -> Input
 }
 
 // Reads to the front of the lent bytes until they are full, the input ends or a read fails. A read that a signal interrupts counts as one
-// that failed. Which bytes stand there afterwards no contract can say; those past the size may have changed too.
+// that failed. What the contract leaves free stands in specs/Reading.antt.
 pub fn read_all(fd: i32, buf: &mut [u8]) -> Input
-    ensures { λ r. ⌜ r .size ≤ length (now (buf .exit)) ⌝ }
+    ensures { λ r. ⌜ Reading (now (buf .entry)) (now (buf .exit)) r ⌝ }
 {
     let mut size = 0;
     while size < buf.len() {
