@@ -17,17 +17,20 @@ static void registers_of(const uint8_t record[RECORD], uint64_t regs[PSCI_REGIST
     }
 }
 
-/* Whether the line leaves the bytes behind it as they were. */
+/* Whether the line leaves the bytes before and behind it as they were. Bytes may be lent anywhere: those of one line after the other begin at each
+ * place of a word. */
 static int by_line(size_t number, const uint64_t regs[PSCI_REGISTERS]) {
-    uint8_t out[PSCI_LINE_BYTES], untouched[PSCI_LINE_BYTES];
-    memset(out, 0xaa, sizeof out);
+    _Alignas(8) uint8_t room[8 + PSCI_LINE_BYTES], untouched[sizeof room];
+    size_t place = number % 8;
+    memset(room, 0xaa, sizeof room);
     memset(untouched, 0xaa, sizeof untouched);
 
-    struct psci_written written = psci_line(number, regs, out);
-    if (written.number != PSCI_ACCEPTED || written.value > sizeof out)
+    struct psci_written written = psci_line(number, regs, room + place);
+    if (written.number != PSCI_ACCEPTED || written.value > PSCI_LINE_BYTES)
         return 0;
-    fwrite(out, 1, written.value, stdout);
-    return memcmp(out + written.value, untouched, sizeof out - written.value) == 0;
+    fwrite(room + place, 1, written.value, stdout);
+    size_t end = place + written.value;
+    return memcmp(room, untouched, place) == 0 && memcmp(room + end, untouched, sizeof room - end) == 0;
 }
 
 /* Whether a refusal leaves the words as they were. */
