@@ -1,14 +1,16 @@
 -- The call of a tag, and words that are those of a call. Assumes nothing.
-use mathlib.Core.Path.{_≡_, sym, ap, _∙_}
+use mathlib.Core.Path.{_≡_, refl, sym, ap, _∙_}
+use mathlib.Core.Bool.{Bool, true, false, cond}
 use mathlib.Core.List.{List}
 use Prim.Native.Nat.{ℕ}
 use lib.IntN.{ℤ, pos}
 use Rattle.refusals.specs.Answers.{Answer, accepted, refused, through, andThen}
+use Rattle.refusals.proofs.Answering.{came-then, not-accepted, same-accepted}
 use Rattle.refusals.proofs.Choosing.{NoneOf, none-chosen}
 use Rattle.function.specs.declared.Function.{Function}
-use Rattle.call_exports.specs.PlainWords.{ofParts}
+use Rattle.call_exports.specs.PlainWords.{same, ofParts}
 use Rattle.call_exports.specs.CallAsked.{Tagged, calls, callAt}
-use Rattle.call_exports.proofs.SameWords.{equal-same, other-same}
+use Rattle.call_exports.proofs.SameWords.{same-equal, equal-same, other-same}
 
 module _ (c : List ℕ) where
   -- what an arm of the `match` over the tags gives
@@ -35,3 +37,14 @@ module _ {A : Type 0} (words : A → List ℕ) (c : List ℕ) (found : Answer A)
 
   pub none-found : {number : ℕ} {value : ℤ} → found ≡ refused number value → refused number value ≡ OwnWords
   none-found e = simp e
+
+  -- so what is accepted was found there, and has these words
+  pub only-own : (f : A) → OwnWords ≡ accepted f → c ≡ words f
+  unfolding ofParts
+  only-own f e =
+      let o = came-then found (λ g. ofParts c (words g) (accepted g)) f e in
+      by-test (o .0) (same c (words (o .0))) refl (o .1 .1)
+    where
+      by-test : (g : A) (t : Bool) → same c (words g) ≡ t → cond t (accepted g) (refused 1003 (pos 0)) ≡ accepted f → c ≡ words f
+      by-test g true s r = same-equal c (words g) s ∙ ap words (same-accepted r)
+      by-test g false s r = not-accepted r

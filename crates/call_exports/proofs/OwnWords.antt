@@ -1,44 +1,17 @@
 -- The words of a call whose parts fit their places ask for that call, and only they do. Assumes nothing.
-use mathlib.Core.Path.{_≡_, refl, ap, _∙_}
-use mathlib.Core.Bool.{Bool, true, false, cond}
+use mathlib.Core.Path.{_≡_, refl, sym, ap}
 use mathlib.Core.List.{List, [], _∷_}
 use Prim.Native.Nat.{ℕ}
-use lib.IntN.{pos}
 use lib.ListN.{getD}
-use Rattle.refusals.specs.Answers.{Answer, accepted, refused, andThen}
-use Rattle.refusals.proofs.Answering.{came-then, not-accepted, same-accepted}
+use Rattle.refusals.specs.Answers.{accepted}
 use Rattle.words.specs.declared.system_off2_types.SystemOff2Type.the-variants.{HibernateOff}
 use Rattle.function.specs.declared.Function.{Function}
 use Rattle.function.specs.declared.Function.the-variants as call
-use Rattle.call_exports.specs.PlainWords.{same, ofParts}
 use Rattle.call_exports.specs.Parts.{_within_, Fit, mpidrParts, powerStateParts, entryParts, cookieParts, resetTypeParts}
 use Rattle.call_exports.specs.CallWords.{callParts, callWords}
 use Rattle.call_exports.specs.CallAsked.{callAt, callAsked}
-use Rattle.call_exports.proofs.SameWords.{same-own, same-equal}
+use Rattle.call_exports.proofs.CallAskedLaws.{own-words, only-own}
 use Rattle.call_exports.proofs.OwnParts.{of-both, mpidr-own, power-state-own, level-own, entry-own, cookie-own, range-own, reset-type-own, feature-own, mode-own, flag-own}
-
--- ---- of any calls that have nine words: what is found at the tag, if the words are its own
-
-module _ {A : Type 0} (words : A → List ℕ) (at : List ℕ → Answer A) where
-  -- words are taken for the call that is found, if they are its own
-  abbrev pub TakenFor : List ℕ → Answer A
-  TakenFor c = andThen (at c) (λ f. ofParts c (words f) (accepted f))
-
-  pub own-taken : (f : A) → at (words f) ≡ accepted f → TakenFor (words f) ≡ accepted f
-  unfolding ofParts
-  own-taken f e = simp (e, same-own (words f))
-
-  pub only-own : (c : List ℕ) (f : A) → TakenFor c ≡ accepted f → c ≡ words f
-  unfolding ofParts
-  only-own c f e =
-      let o = came-then (at c) (λ g. ofParts c (words g) (accepted g)) f e in
-      by-test (o .0) (same c (words (o .0))) refl (o .1 .1)
-    where
-      by-test : (g : A) (t : Bool) → same c (words g) ≡ t → cond t (accepted g) (refused 1003 (pos 0)) ≡ accepted f → c ≡ words f
-      by-test g true s r = same-equal c (words g) s ∙ ap words (same-accepted r)
-      by-test g false s r = not-accepted r
-
--- ---- document 01's calls
 
 -- the call at the tag of a call's own words
 pub found : (f : Function) → Fit (callParts f) → callAt (callWords f) (getD (callWords f) 0 0) ≡ accepted f
@@ -69,8 +42,8 @@ found (call.StatCount mpidr state) h = ap accepted (of-both call.StatCount (mpid
 
 pub own-call : (f : Function) → Fit (callParts f) → callAsked (callWords f) ≡ accepted f
 unfolding callAsked
-own-call f h = own-taken callWords (λ c. callAt c (getD c 0 0)) f (found f h)
+own-call f h = sym (own-words callWords (callWords f) _ (found f h) refl)
 
 pub only-call : (c : List ℕ) (f : Function) → callAsked c ≡ accepted f → c ≡ callWords f
 unfolding callAsked
-only-call c f e = only-own callWords (λ d. callAt d (getD d 0 0)) c f e
+only-call c f e = only-own callWords c (callAt c (getD c 0 0)) f e

@@ -29,33 +29,24 @@ clear1 regs = getD regs 0 0 ∷ 0 ∷ getD regs 2 0 ∷ getD regs 3 0 ∷ []
 abbrev clear2 : List ℕ → List ℕ
 clear2 regs = getD regs 0 0 ∷ getD regs 1 0 ∷ 0 ∷ getD regs 3 0 ∷ []
 
-fits-1 : (regs : List ℕ) → Registers regs → Registers (clear1 regs)
-fits-1 regs h = record { fits = at }
+-- four numbers of 64 bits
+four-fit : (a b c d : ℕ) → a < 2 ^ 64 → b < 2 ^ 64 → c < 2 ^ 64 → d < 2 ^ 64 → Registers (a ∷ b ∷ c ∷ d ∷ [])
+four-fit a b c d p q r s = record { fits = at }
   where
-    at : (i : ℕ) → getD (clear1 regs) i 0 < 2 ^ 64
-    at zero = h .fits 0
-    at (suc zero) = lit< tt
-    at (suc (suc zero)) = h .fits 2
-    at (suc (suc (suc zero))) = h .fits 3
-    at (suc (suc (suc (suc i)))) = lit< tt
-
-fits-2 : (regs : List ℕ) → Registers regs → Registers (clear2 regs)
-fits-2 regs h = record { fits = at }
-  where
-    at : (i : ℕ) → getD (clear2 regs) i 0 < 2 ^ 64
-    at zero = h .fits 0
-    at (suc zero) = h .fits 1
-    at (suc (suc zero)) = lit< tt
-    at (suc (suc (suc zero))) = h .fits 3
+    at : (i : ℕ) → getD (a ∷ b ∷ c ∷ d ∷ []) i 0 < 2 ^ 64
+    at zero = p
+    at (suc zero) = q
+    at (suc (suc zero)) = r
+    at (suc (suc (suc zero))) = s
     at (suc (suc (suc (suc i)))) = lit< tt
 
 -- a function that has its power state in a register
 module _ (f : FunctionId) (regs : List ℕ) (p : numberIn regs ≡ functionNumber f) where
   in-1 : withWord (rowCall f 0 (getD regs 2 0) (getD regs 3 0)) (getD regs 1 0 % 2 ^ 32) ≡ originalKnown f (getD regs 1 0) (getD regs 2 0) (getD regs 3 0) → Apart regs
-  in-1 row = record { others = clear1 regs; word = getD regs 1 0 % 2 ^ 32; fits = fits-1 regs; same = known-by f regs (clear1 regs) _ _ refl p refl row }
+  in-1 row = record { others = clear1 regs; word = getD regs 1 0 % 2 ^ 32; fits = λ h. four-fit _ 0 _ _ (h .fits 0) (lit< tt) (h .fits 2) (h .fits 3); same = known-by f regs (clear1 regs) _ _ refl p refl row }
 
   in-2 : withWord (rowCall f (getD regs 1 0) 0 (getD regs 3 0)) (getD regs 2 0 % 2 ^ 32) ≡ originalKnown f (getD regs 1 0) (getD regs 2 0) (getD regs 3 0) → Apart regs
-  in-2 row = record { others = clear2 regs; word = getD regs 2 0 % 2 ^ 32; fits = fits-2 regs; same = known-by f regs (clear2 regs) _ _ refl p refl row }
+  in-2 row = record { others = clear2 regs; word = getD regs 2 0 % 2 ^ 32; fits = λ h. four-fit _ _ 0 _ (h .fits 0) (h .fits 1) (lit< tt) (h .fits 3); same = known-by f regs (clear2 regs) _ _ refl p refl row }
 
 -- the number is a function's, or it is not
 pub either-number : {A : Type 0} (f : FunctionId) (regs : List ℕ) → (numberIn regs ≡ functionNumber f → A) → ((numberIn regs ≡ functionNumber f → ⊥) → A) → A

@@ -24,10 +24,10 @@ use Rattle.call_exports.specs.CallAsked.{callAt}
 use Rattle.call_exports.specs.CallWords.{callParts, callWords}
 use Rattle.call_exports.specs.FromParts.{powerStateIn, entryIn}
 use Rattle.call_exports.specs.Parts.{Fit, mpidrParts, powerStateParts, entryParts}
+use Rattle.call_exports.proofs.CallAskedLaws.{own-words, only-own}
 use Rattle.call_exports.proofs.DecodedFit.{flag-fits, fit-of-01}
 use Rattle.call_exports.proofs.NineWords.{nine-words}
 use Rattle.call_exports.proofs.OwnParts.{first-fit, last-fit, both-fit, of-both, mpidr-own, entry-own, flag-own}
-use Rattle.call_exports.proofs.OwnWords.{own-taken, only-own}
 use Rattle.call_exports.proofs.OwnWords as of-01
 use Rattle.original_calls.specs.OriginalCalls.{originalDecodeOf}
 use Rattle.original_calls.specs.OriginalCodec.{original}
@@ -82,11 +82,11 @@ found (Other g) h = ap (λ (c : List ℕ). originalAt c (getD c 0 0)) (words-of-
 
 own-original : (f : OriginalFunction) → Fit (originalParts f) → originalAsked (originalWords f) ≡ accepted f
 unfolding originalAsked
-own-original f h = own-taken originalWords (λ c. originalAt c (getD c 0 0)) f (found f h)
+own-original f h = sym (own-words originalWords (originalWords f) _ (found f h) refl)
 
 only-original : (c : List ℕ) (f : OriginalFunction) → originalAsked c ≡ accepted f → c ≡ originalWords f
 unfolding originalAsked
-only-original c f e = only-own originalWords (λ d. originalAt d (getD d 0 0)) c f e
+only-original c f e = only-own originalWords c (originalAt c (getD c 0 0)) f e
 
 -- ---- the parts of a decoded call fit
 
