@@ -4,9 +4,9 @@ use mathlib.Core.Bool.{Bool, true, false, cond}
 use mathlib.Core.List.{List}
 use Prim.Native.Nat.{ℕ}
 use lib.IntN.{ℤ, pos}
-use Rattle.refusals.specs.Answers.{Answer, accepted, refused, through, andThen}
-use Rattle.refusals.proofs.Answering.{came-then, not-accepted, same-accepted}
-use Rattle.refusals.proofs.Choosing.{NoneOf, none-chosen}
+use Rattle.answers.specs.Answers.{Answer, accepted, refused, through, andThen}
+use Rattle.answers.proofs.Answering.{came-then, not-accepted, same-accepted}
+use Rattle.answers.proofs.Choosing.{NoneOf, none-chosen}
 use Rattle.function.specs.declared.Function.{Function}
 use Rattle.call_exports.specs.PlainWords.{same, ofParts}
 use Rattle.call_exports.specs.CallAsked.{Tagged, calls, callAt}

@@ -8,8 +8,8 @@ use lib.Dec.{eqb, leb, ltb, lit<}
 use lib.IntN.{pos}
 use borrow.Author.Tests.{ltb-true}
 use Rattle.bits.specs.Bits.{bits, only}
-use Rattle.refusals.specs.Answers.{Answer, accepted, refused, through}
-use Rattle.refusals.proofs.Answering.{passed, at-once-or-through}
+use Rattle.answers.specs.Answers.{Answer, accepted, refused, through}
+use Rattle.answers.proofs.Answering.{passed, at-once-or-through}
 use Rattle.function_ids.specs.FunctionIds.{Form, narrow, wide, functionNumber}
 use Rattle.function_ids.specs.declared.FunctionId.{FunctionId}
 use Rattle.function_ids.specs.declared.FunctionId.the-variants as id

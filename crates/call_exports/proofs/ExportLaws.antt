@@ -6,11 +6,11 @@ use Prim.Native.Nat.{ℕ}
 use lib.IntN.{ℤ, pos}
 use lib.ListN.{length}
 use borrow.Author.Tests.{eq-eqb}
-use Rattle.refusals.specs.Answers.{Answer, accepted, refused, through, andThen}
-use Rattle.refusals.specs.Lent.{left}
-use Rattle.refusals.specs.Told.{refusalIs, refusalIn}
-use Rattle.refusals.specs.declared.told.Refusal.{Refusal}
-use Rattle.refusals.proofs.Lending.{fronted-all}
+use Rattle.answers.specs.Answers.{Answer, accepted, refused, through, andThen}
+use Rattle.answers.specs.Lent.{left}
+use Rattle.answers.specs.Told.{refusalIs, refusalIn}
+use Rattle.answers.specs.declared.told.Refusal.{Refusal}
+use Rattle.answers.proofs.Lending.{fronted-all}
 use Rattle.function.specs.declared.Function.{Function}
 use Rattle.encode.specs.Answers.{encodeAnswer}
 use Rattle.encode.specs.declared.EncodeResult.{EncodeResult}

@@ -3,8 +3,8 @@ use mathlib.Core.Path.{_≡_, refl, sym, ap, _∙_}
 use mathlib.Core.List.{List}
 use Prim.Native.Nat.{ℕ}
 use lib.ListN.{length}
-use Rattle.refusals.specs.Answers.{Answer, accepted, refused, through, andThen}
-use Rattle.refusals.proofs.Answering.{same-accepted}
+use Rattle.answers.specs.Answers.{Answer, accepted, refused, through, andThen}
+use Rattle.answers.proofs.Answering.{same-accepted}
 use Rattle.roundtrip.specs.Codec.{Codec, Registers, wordsIn, Demand3}
 use Rattle.roundtrip.specs.Psci.{psci}
 use Rattle.roundtrip.specs.Recode.{recodeBy}

@@ -4,8 +4,8 @@ use mathlib.Core.Bool.{Bool, true, false, cond}
 use mathlib.Core.List.{List, [], _∷_}
 use Prim.Native.Nat.{ℕ}
 use lib.Dec.{eqb}
-use Rattle.refusals.specs.Answers.{Answer, accepted, choose}
-use Rattle.refusals.proofs.Choosing.{NoneOf, none-chosen}
+use Rattle.answers.specs.Answers.{Answer, accepted, choose}
+use Rattle.answers.proofs.Choosing.{NoneOf, none-chosen}
 use Rattle.call_exports.specs.Places.{pick}
 
 module _ {A : Type 0} (number : A → ℕ) (other : A) (key : ℕ) where

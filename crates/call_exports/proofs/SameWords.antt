@@ -11,7 +11,7 @@ use borrow.Author.Tests.{eqb-true, eq-eqb}
 use Rattle.bits.proofs.HalfLaws.{or-none}
 use Rattle.bits.proofs.Picks.{both-true}
 use Rattle.bits.proofs.Xor.{xor-none}
-use Rattle.refusals.proofs.Lending.{placed-front, fronted-all, stored-all}
+use Rattle.answers.proofs.Lending.{placed-front, fronted-all, stored-all}
 use Rattle.call_exports.specs.PlainWords.{same}
 use Rattle.call_exports.specs.Parts.{nine}
 

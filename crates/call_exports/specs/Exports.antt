@@ -4,7 +4,7 @@ use mathlib.Core.List.{List}
 use Prim.Native.Nat.{ℕ}
 use lib.Dec.{eqb}
 use lib.ListN.{length}
-use Rattle.refusals.specs.Answers.{Answer, andThen}
+use Rattle.answers.specs.Answers.{Answer, andThen}
 use Rattle.encode_definition.specs.Encode.{encodeOf}
 use Rattle.call_exports.specs.CallAsked.{callAsked}
 

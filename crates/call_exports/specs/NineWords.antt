@@ -4,7 +4,7 @@ use mathlib.Core.List.{List}
 use mathlib.Core.Path.{_≡_}
 use Prim.Native.Nat.{ℕ}
 use lib.ListN.{length}
-use Rattle.refusals.specs.Answers.{Answer, accepted, through, andThen}
+use Rattle.answers.specs.Answers.{Answer, accepted, through, andThen}
 use Rattle.function.specs.declared.Function.{Function}
 use Rattle.roundtrip.specs.Codec.{Codec, Registers, wordsIn}
 use Rattle.roundtrip.specs.Psci.{psci}

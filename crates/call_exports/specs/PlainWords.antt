@@ -4,7 +4,7 @@ use mathlib.Core.List.{List, [], _∷_}
 use Prim.Native.Nat.{ℕ, _%_, _^_}
 use lib.Dec.{eqb}
 use lib.IntN.{pos}
-use Rattle.refusals.specs.Answers.{Answer, refused}
+use Rattle.answers.specs.Answers.{Answer, refused}
 
 abbrev pub low : ℕ → ℕ
 low part = part % 2 ^ 32

@@ -3,9 +3,9 @@
 ghost use mathlib.Core.List.{List};
 ghost use mathlib.Core.Path.{_≡_};
 ghost use Prim.Native.Nat.{ℕ};
-ghost use Rattle.refusals.specs.Answers.{through};
-ghost use Rattle.refusals.specs.Lent.{left};
-ghost use Rattle.refusals.specs.Told.{refusalIn};
+ghost use Rattle.answers.specs.Answers.{through};
+ghost use Rattle.answers.specs.Lent.{left};
+ghost use Rattle.answers.specs.Told.{refusalIn};
 ghost use Rattle.decode_definition.specs.Decode.{decodeOf, decodeSmccc};
 ghost use Rattle.encode.specs.Answers.{encodeAnswer};
 ghost use Rattle.roundtrip.specs.Recode.{recodeOf, recodeSmccc};
@@ -25,9 +25,9 @@ use crate::call_words::call_words;
 use decode::registers::low_half_for_protect;
 use encode::EncodeResult;
 use function::FunctionResult;
-use refusals::told::Refusal;
-use refusals::told::accepted_words;
-use refusals::told::refusal_of;
+use answers::told::Refusal;
+use answers::told::accepted_words;
+use answers::told::refusal_of;
 
 // Nine words into a lent run of nine; any other run is left as it was. It is lent as a slice: the checker tells the length of a slice, and not that
 // of `&mut [u64; 9]`.

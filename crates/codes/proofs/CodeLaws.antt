@@ -10,11 +10,11 @@ use borrow.Author.Tests.{eqb-true, ne-eqb, lt-ltb}
 use Rattle.bits.specs.Signs.{signed, wordOf, fitsIn}
 use Rattle.bits.proofs.Picks.{if-true, if-false}
 use Rattle.bits.proofs.TwosComplement.{sign-laws}
-use Rattle.refusals.specs.Answers.{Answer, accepted, refused, through}
-use Rattle.refusals.specs.Inverses.{WritesBack, ReadsBack, always, Any}
-use Rattle.refusals.proofs.Answering.{not-accepted, handed-on, at-once-or-through}
-use Rattle.refusals.proofs.Choosing.{chosen-number}
-use Rattle.refusals.proofs.Inverting.{writes-always, reads-always}
+use Rattle.answers.specs.Answers.{Answer, accepted, refused, through}
+use Rattle.answers.specs.Inverses.{WritesBack, ReadsBack, always, Any}
+use Rattle.answers.proofs.Answering.{not-accepted, handed-on, at-once-or-through}
+use Rattle.answers.proofs.Choosing.{chosen-number}
+use Rattle.answers.proofs.Inverting.{writes-always, reads-always}
 use Rattle.codes.specs.Codes.{minus, codeNumber, codeSize, errorCodes, returnNumber, readErrorCode, readErrorCode64, readReturnCode}
 use Rattle.codes.specs.CodeLaws.{CodeLaws}
 use Rattle.codes.specs.declared.ErrorCode.{ErrorCode}

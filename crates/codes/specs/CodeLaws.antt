@@ -2,7 +2,7 @@
 use mathlib.Core.Path.{_≡_}
 use Prim.Native.Nat.{ℕ}
 use Rattle.bits.specs.Signs.{signed, wordOf}
-use Rattle.refusals.specs.Inverses.{WritesBack, ReadsBack, always, Word32, Word64, Any}
+use Rattle.answers.specs.Inverses.{WritesBack, ReadsBack, always, Word32, Word64, Any}
 use Rattle.codes.specs.Codes.{codeNumber, returnNumber, readErrorCode, readErrorCode64, readReturnCode, codeOfRefusal}
 use Rattle.codes.specs.declared.ErrorCode.{ErrorCode}
 use Rattle.codes.specs.declared.ErrorCode.the-variants.{NotSupported, InvalidParameters}

@@ -5,10 +5,10 @@ use Prim.Native.Nat.{ℕ}
 use lib.Dec.{eqb}
 use lib.IntN.{ℤ, pos, negℤ, natAbs}
 use lib.Signed.{nonNeg}
-use Rattle.refusals.specs.Answers.{Answer, accepted, refused, choose, through}
-use Rattle.refusals.specs.Errors.{refusal, refusalNumber}
+use Rattle.answers.specs.Answers.{Answer, accepted, refused, choose, through}
+use Rattle.answers.specs.Errors.{refusal, refusalNumber}
 use Rattle.bits.specs.Signs.{fitsIn}
-use Rattle.refusals.specs.declared.Error.{Error}
+use Rattle.answers.specs.declared.Error.{Error}
 use Rattle.codes.specs.declared.ErrorCode.{ErrorCode}
 use Rattle.codes.specs.declared.ErrorCode.the-variants.{NotSupported, InvalidParameters, Denied, AlreadyOn, OnPending, InternalFailure, NotPresent, Disabled, InvalidAddress}
 use Rattle.codes.specs.declared.ErrorCodeResult.{ErrorCodeResult}

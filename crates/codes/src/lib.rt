@@ -3,7 +3,7 @@ ghost use mathlib.Core.Path.{_≡_};
 ghost use Rattle.codes.specs.Codes.{codeOfRefusal, errorCodeOf, codeNumber, errorCodeAnswer, readErrorCode, readErrorCode64, returnNumber, returnCodeAnswer, readReturnCode};
 ghost use Rattle.bits.specs.Signs.{signed, wordOf};
 use bits::signs;
-use refusals::Error;
+use answers::Error;
 
 // DEN0022 5.2.2.
 pub enum ErrorCode {

@@ -5,7 +5,7 @@ ghost use Rattle.function.specs.Functions.{functionAnswer};
 ghost use Rattle.decode_definition.specs.RefusalOrders.{affinityInfo};
 use function::Function;
 use function::FunctionResult;
-use refusals::Error;
+use answers::Error;
 use words::MpidrResult;
 
 // The level is checked before the MPIDR.

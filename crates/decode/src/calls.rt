@@ -2,7 +2,7 @@
 ghost use mathlib.Core.Path.{_≡_};
 ghost use mathlib.Core.Bool.{not};
 ghost use lib.Dec.{eqb};
-ghost use Rattle.refusals.specs.Answers.{accepted, through};
+ghost use Rattle.answers.specs.Answers.{accepted, through};
 ghost use Rattle.words.specs.PowerStates.{powerStateAnswer};
 ghost use Rattle.words.specs.ResetTypes.{resetTypeAnswer};
 ghost use Rattle.words.specs.PsciFeatures.{featureAnswer};

@@ -1,6 +1,6 @@
 // A call on a core from its MPIDR as it was read: a refused MPIDR is the answer.
 ghost use mathlib.Core.Path.{_≡_};
-ghost use Rattle.refusals.specs.Answers.{through};
+ghost use Rattle.answers.specs.Answers.{through};
 ghost use Rattle.words.specs.Mpidrs.{mpidrAnswer};
 ghost use Rattle.function.specs.Functions.{functionAnswer};
 ghost use Rattle.function.specs.declared.Function.the-variants.{CpuOn, Migrate, NodeHwState};

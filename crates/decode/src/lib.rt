@@ -14,7 +14,7 @@ use crate::registers::number_in;
 use function::Function;
 use function::FunctionResult;
 use function_ids::FunctionId;
-use refusals::Error;
+use answers::Error;
 use words::Cookie;
 use words::MemProtectRange;
 use words::Mpidr;

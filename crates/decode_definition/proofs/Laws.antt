@@ -7,8 +7,8 @@ use native.Mathlib.Nat.{mod-mod}
 use lib.Dec.{eqb}
 use lib.IntN.{pos}
 use lib.ListN.{getD}
-use Rattle.refusals.specs.Answers.{Answer, accepted, refused}
-use Rattle.refusals.proofs.Choosing.{NoneOf, none-chosen}
+use Rattle.answers.specs.Answers.{Answer, accepted, refused}
+use Rattle.answers.proofs.Choosing.{NoneOf, none-chosen}
 use Rattle.function_ids.specs.FunctionIds.{functionNumber, functions, readFunctionId}
 use Rattle.function_ids.proofs.FunctionIdLaws.{function-back}
 use Rattle.function_ids.specs.declared.FunctionId.{FunctionId}

@@ -6,7 +6,7 @@ use mathlib.Core.List.{List}
 use Prim.Native.Nat.{ℕ}
 use lib.Dec.{eqb}
 use lib.ListN.{getD}
-use Rattle.refusals.specs.Answers.{Answer, accepted, through, andThen}
+use Rattle.answers.specs.Answers.{Answer, accepted, through, andThen}
 use Rattle.function_ids.specs.FunctionIds.{readFunctionId}
 use Rattle.function_ids.specs.declared.FunctionId.{FunctionId}
 use Rattle.function_ids.specs.declared.FunctionId.the-variants as id

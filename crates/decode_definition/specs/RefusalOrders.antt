@@ -3,7 +3,7 @@ use mathlib.Core.Bool.{cond}
 use Prim.Native.Nat.{ℕ}
 use lib.Dec.{leb}
 use lib.IntN.{pos}
-use Rattle.refusals.specs.Answers.{Answer, refused, through, andThen}
+use Rattle.answers.specs.Answers.{Answer, refused, through, andThen}
 use Rattle.words.specs.declared.mpidrs.Mpidr.{Mpidr}
 use Rattle.function.specs.declared.Function.{Function}
 use Rattle.function.specs.declared.Function.the-variants.{AffinityInfo}

@@ -1,8 +1,8 @@
 -- The result of encoding, in document 01's terms.
 use mathlib.Core.List.{List}
 use Prim.Native.Nat.{ℕ}
-use Rattle.refusals.specs.Answers.{Answer, accepted}
-use Rattle.refusals.specs.Errors.{refusal}
+use Rattle.answers.specs.Answers.{Answer, accepted}
+use Rattle.answers.specs.Errors.{refusal}
 use Rattle.encode.specs.declared.EncodeResult.{EncodeResult}
 use Rattle.encode.specs.declared.EncodeResult.the-variants.{Ok, Err}
 

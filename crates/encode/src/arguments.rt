@@ -1,13 +1,13 @@
 // The argument words of a call.
 ghost use mathlib.Core.Path.{_≡_};
 ghost use mathlib.Core.List.{_∷_, []};
-ghost use Rattle.refusals.specs.Answers.{accepted, through};
-ghost use Rattle.refusals.specs.Errors.{wordAnswer};
+ghost use Rattle.answers.specs.Answers.{accepted, through};
+ghost use Rattle.answers.specs.Errors.{wordAnswer};
 ghost use Rattle.encode_definition.specs.Arguments.{argumentsOf};
 ghost use Rattle.encode.specs.ArgumentAnswers.{argumentsAnswer};
 use function::Function;
-use refusals::Error;
-use refusals::WordResult;
+use answers::Error;
+use answers::WordResult;
 use words::base_word;
 use words::cookie_word;
 use words::flag_word;

@@ -2,8 +2,8 @@
 ghost use mathlib.Core.Path.{_≡_};
 ghost use mathlib.Core.List.{_∷_, []};
 ghost use lib.ListN.{length};
-ghost use Rattle.refusals.specs.Answers.{accepted};
-ghost use Rattle.refusals.specs.Lent.{left};
+ghost use Rattle.answers.specs.Answers.{accepted};
+ghost use Rattle.answers.specs.Lent.{left};
 ghost use Rattle.function_ids.specs.FunctionIds.{functionNumber};
 ghost use Rattle.encode_definition.specs.Encode.{encodeOf, writtenOf};
 ghost use Rattle.encode.specs.Answers.{encodeAnswer};
@@ -17,7 +17,7 @@ use crate::arguments::argument_words;
 use function::Function;
 use function_ids::FunctionId;
 use function_ids::FunctionIdResult;
-use refusals::Error;
+use answers::Error;
 
 // How many numbers a call's run has.
 const RUN: usize = 4;

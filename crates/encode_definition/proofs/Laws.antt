@@ -6,10 +6,10 @@ use lib.Dec.{eqb}
 use lib.IntN.{ℤ, pos}
 use lib.ListN.{length}
 use borrow.Author.Tests.{eqb-true, eq-eqb, ne-eqb}
-use Rattle.refusals.specs.Answers.{Answer, accepted, refused}
-use Rattle.refusals.specs.Lent.{left}
-use Rattle.refusals.proofs.Answering.{handed-on, came-through}
-use Rattle.refusals.proofs.Lending.{fronted-all}
+use Rattle.answers.specs.Answers.{Answer, accepted, refused}
+use Rattle.answers.specs.Lent.{left}
+use Rattle.answers.proofs.Answering.{handed-on, came-through}
+use Rattle.answers.proofs.Lending.{fronted-all}
 use Rattle.function_ids.specs.FunctionIds.{functionNumber}
 use Rattle.function_ids.specs.declared.FunctionId.{FunctionId}
 use Rattle.function.specs.Functions.{functionIdOf}

@@ -2,7 +2,7 @@
 use mathlib.Core.List.{List, [], _∷_}
 use Prim.Native.Nat.{ℕ}
 use lib.ListN.{getD}
-use Rattle.refusals.specs.Answers.{Answer, accepted, through}
+use Rattle.answers.specs.Answers.{Answer, accepted, through}
 use Rattle.words.specs.Mpidrs.{writeMpidr64}
 use Rattle.words.specs.PowerStates.{writePowerState}
 use Rattle.words.specs.ResetTypes.{writeResetType}

@@ -1,7 +1,7 @@
 -- Document 01, "The four written words": the form of a typed call, by the part of it that the form follows.
 use mathlib.Core.Bool.{Bool, true, false}
 use lib.IntN.{pos}
-use Rattle.refusals.specs.Answers.{Answer, accepted, refused}
+use Rattle.answers.specs.Answers.{Answer, accepted, refused}
 use Rattle.function_ids.specs.FunctionIds.{Form, narrow, wide}
 use Rattle.function_ids.specs.declared.FunctionId.{FunctionId}
 use Rattle.function_ids.specs.declared.FunctionId.the-variants as id

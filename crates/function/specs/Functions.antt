@@ -1,6 +1,6 @@
 -- Document 01, "The four written words": the function number of a typed call.
-use Rattle.refusals.specs.Answers.{Answer, accepted}
-use Rattle.refusals.specs.Errors.{refusal}
+use Rattle.answers.specs.Answers.{Answer, accepted}
+use Rattle.answers.specs.Errors.{refusal}
 use Rattle.function_ids.specs.declared.FunctionId.{FunctionId}
 use Rattle.function_ids.specs.declared.FunctionId.the-variants as id
 use Rattle.function.specs.Forms.{inForm, entryForm, cookieForm, rangeForm, flagForm, mpidrForm, onNumber}

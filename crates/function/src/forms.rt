@@ -4,7 +4,7 @@ ghost use Rattle.function_ids.specs.FunctionIds.{functionIdAnswer};
 ghost use Rattle.function.specs.Forms.{inForm, entryForm, mpidrForm, cookieForm, rangeForm, flagForm, onNumber};
 use function_ids::FunctionId;
 use function_ids::FunctionIdResult;
-use refusals::Error;
+use answers::Error;
 use words::Aff3;
 use words::Cookie;
 use words::EntryPoint;

@@ -7,7 +7,7 @@ pub mod forms;
 
 use function_ids::FunctionId;
 use function_ids::FunctionIdResult;
-use refusals::Error;
+use answers::Error;
 use words::Cookie;
 use words::EntryPoint;
 use words::MemProtectRange;

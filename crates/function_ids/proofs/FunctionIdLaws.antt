@@ -3,10 +3,10 @@ use mathlib.Core.Path.{_≡_, refl, sym, ap, _∙_}
 use mathlib.Core.Bool.{Bool, true}
 use Prim.Native.Nat.{ℕ}
 use lib.IntN.{pos}
-use Rattle.refusals.specs.Answers.{accepted}
-use Rattle.refusals.specs.Inverses.{Any}
-use Rattle.refusals.proofs.Answering.{same-accepted}
-use Rattle.refusals.proofs.Choosing.{numbered-is, numbered-writes, numbered-reads, every, every-chosen}
+use Rattle.answers.specs.Answers.{accepted}
+use Rattle.answers.specs.Inverses.{Any}
+use Rattle.answers.proofs.Answering.{same-accepted}
+use Rattle.answers.proofs.Choosing.{numbered-is, numbered-writes, numbered-reads, every, every-chosen}
 use Rattle.function_ids.specs.FunctionIds.{functions, functionNumber, readFunctionId}
 use Rattle.function_ids.specs.FunctionIdLaws.{FunctionIdLaws}
 use Rattle.function_ids.specs.declared.FunctionId.{FunctionId}

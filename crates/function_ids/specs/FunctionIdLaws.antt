@@ -1,5 +1,5 @@
 -- Reading and writing a function number invert each other.
-use Rattle.refusals.specs.Inverses.{WritesBack, ReadsBack, always, Any}
+use Rattle.answers.specs.Inverses.{WritesBack, ReadsBack, always, Any}
 use Rattle.function_ids.specs.FunctionIds.{functionNumber, readFunctionId}
 
 pub record FunctionIdLaws : Type 0 where

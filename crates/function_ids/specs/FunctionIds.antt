@@ -2,8 +2,8 @@
 use mathlib.Core.List.{List, [], _∷_}
 use Prim.Native.Nat.{ℕ, _+_}
 use lib.IntN.{pos}
-use Rattle.refusals.specs.Answers.{Answer, accepted, refused, choose}
-use Rattle.refusals.specs.Errors.{refusal}
+use Rattle.answers.specs.Answers.{Answer, accepted, refused, choose}
+use Rattle.answers.specs.Errors.{refusal}
 use Rattle.function_ids.specs.declared.FunctionId.{FunctionId}
 use Rattle.function_ids.specs.declared.FunctionId.the-variants.{PsciVersion, CpuSuspend32, CpuSuspend64, CpuOff, CpuOn32, CpuOn64, AffinityInfo32, AffinityInfo64, Migrate32, Migrate64, MigrateInfoType, MigrateInfoUpCpu32, MigrateInfoUpCpu64, SystemOff, SystemReset, PsciFeatures, CpuFreeze, CpuDefaultSuspend32, CpuDefaultSuspend64, NodeHwState32, NodeHwState64, SystemSuspend32, SystemSuspend64, PsciSetSuspendMode, PsciStatResidency32, PsciStatResidency64, PsciStatCount32, PsciStatCount64, SystemReset232, SystemReset264, MemProtect, MemProtectCheckRange32, MemProtectCheckRange64, SystemOff232, SystemOff264}
 use Rattle.function_ids.specs.declared.FunctionIdResult.{FunctionIdResult}

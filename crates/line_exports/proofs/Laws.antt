@@ -3,8 +3,8 @@ use mathlib.Core.Path.{_≡_, sym, ap, _∙_}
 use mathlib.Core.List.{List}
 use Prim.Native.Nat.{ℕ}
 use lib.ListN.{length}
-use Rattle.refusals.specs.Answers.{Answer, through}
-use Rattle.refusals.specs.Lent.{left}
+use Rattle.answers.specs.Answers.{Answer, through}
+use Rattle.answers.specs.Lent.{left}
 use Rattle.record_line.specs.Errors.{lineAnswer}
 use Rattle.record_line.specs.Line.{lineOf}
 use Rattle.record_line.specs.declared.LineResult.{LineResult}

@@ -2,7 +2,7 @@
 use Prim.Native.Nat.{ℕ}
 use lib.IntN.{ℤ}
 use Rattle.bits.specs.Signs.{wordOf}
-use Rattle.refusals.specs.Answers.{Answer, accepted, refused}
+use Rattle.answers.specs.Answers.{Answer, accepted, refused}
 use Rattle.line_exports.specs.declared.Written.{Written}
 
 abbrev pub refusedLine : ℕ → ℤ → Written

@@ -1,8 +1,8 @@
 // The line of a record over plain words, for the benchmark and callers in C.
 ghost use mathlib.Core.Path.{_≡_};
 ghost use lib.ListN.{length};
-ghost use Rattle.refusals.specs.Answers.{through};
-ghost use Rattle.refusals.specs.Lent.{left};
+ghost use Rattle.answers.specs.Answers.{through};
+ghost use Rattle.answers.specs.Lent.{left};
 ghost use Rattle.record_line.specs.Errors.{lineRefusalNumber, lineRefusalValue};
 ghost use Rattle.record_line.specs.Line.{lineOf};
 ghost use Rattle.line_exports.specs.Exports.{refusedLine, writtenIn};

@@ -4,11 +4,11 @@ use mathlib.Core.List.{List}
 use Prim.Native.Nat.{ℕ}
 use lib.IntN.{ℤ, pos}
 use lib.ListN.{length}
-use Rattle.refusals.specs.Answers.{Answer, accepted, refused, through}
-use Rattle.refusals.specs.Lent.{left}
-use Rattle.refusals.specs.Told.{refusalIs, refusalIn}
-use Rattle.refusals.specs.declared.told.Refusal.{Refusal}
-use Rattle.refusals.proofs.Lending.{fronted-all}
+use Rattle.answers.specs.Answers.{Answer, accepted, refused, through}
+use Rattle.answers.specs.Lent.{left}
+use Rattle.answers.specs.Told.{refusalIs, refusalIn}
+use Rattle.answers.specs.declared.told.Refusal.{Refusal}
+use Rattle.answers.proofs.Lending.{fronted-all}
 use Rattle.words.specs.declared.mpidrs.Mpidr.{Mpidr}
 use Rattle.mpidr_bench.specs.Exports.{affinityWords}
 

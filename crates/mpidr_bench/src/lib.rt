@@ -2,15 +2,15 @@
 // same contract. C reaches both in the same way.
 ghost use mathlib.Core.Path.{_≡_};
 ghost use lib.ListN.{length, getD};
-ghost use Rattle.refusals.specs.Answers.{through};
-ghost use Rattle.refusals.specs.Lent.{left};
-ghost use Rattle.refusals.specs.Told.{refusalIn};
+ghost use Rattle.answers.specs.Answers.{through};
+ghost use Rattle.answers.specs.Lent.{left};
+ghost use Rattle.answers.specs.Told.{refusalIn};
 ghost use Rattle.words.specs.Mpidrs.{readMpidr64, mpidrAnswer, aff3Number};
 ghost use Rattle.mpidr_bench.specs.Exports.{affinityWords};
-use refusals::Error;
-use refusals::told::Refusal;
-use refusals::told::accepted_words;
-use refusals::told::refusal_of;
+use answers::Error;
+use answers::told::Refusal;
+use answers::told::accepted_words;
+use answers::told::refusal_of;
 use words::Aff3;
 use words::Mpidr;
 use words::MpidrResult;

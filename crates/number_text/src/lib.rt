@@ -3,7 +3,7 @@
 ghost use mathlib.Core.Path.{_≡_};
 ghost use mathlib.Core.List.{_∷_, _++_};
 ghost use Prim.Native.Nat.{_+_, _-_, _≤_};
-ghost use Rattle.refusals.specs.Lent.{WroteInRoom};
+ghost use Rattle.answers.specs.Lent.{WroteInRoom};
 ghost use Rattle.number_text.specs.Text.{space, decimal, wordText, wordsText};
 
 pub mod digits;

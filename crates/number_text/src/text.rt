@@ -2,7 +2,7 @@
 ghost use mathlib.Core.List.{[], _∷_};
 ghost use Prim.Native.Nat.{_+_, _≤_, _<_};
 ghost use lib.ListN.{length};
-ghost use Rattle.refusals.specs.Lent.{Wrote};
+ghost use Rattle.answers.specs.Lent.{Wrote};
 ghost use Rattle.number_text.specs.Digits.{glyph};
 ghost use Rattle.number_text.specs.Text.{space, hexadecimal, wordText, decimalIn};
 use crate::digits::digit;

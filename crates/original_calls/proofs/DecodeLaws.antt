@@ -5,8 +5,8 @@ use Prim.Native.Nat.{ℕ}
 use native.Mathlib.Nat.{mod-mod}
 use lib.ListN.{getD}
 use Rattle.bits.proofs.Picks.{choice}
-use Rattle.refusals.specs.Answers.{Answer, accepted, through, andThen}
-use Rattle.refusals.proofs.Answering.{then-then}
+use Rattle.answers.specs.Answers.{Answer, accepted, through, andThen}
+use Rattle.answers.proofs.Answering.{then-then}
 use Rattle.function_ids.specs.FunctionIds.{functionNumber, readFunctionId}
 use Rattle.function_ids.specs.declared.FunctionId.{FunctionId}
 use Rattle.function_ids.specs.CallTable.{Kind, powerState, sameKind, ruleOf, kept, valueIn, numberIn}

@@ -4,8 +4,8 @@ use mathlib.Core.List.{List, [], _∷_}
 use mathlib.Core.Logic.{⊎-elim}
 use lib.ListN.{getD}
 use Prim.Native.Nat.{ℕ}
-use Rattle.refusals.specs.Answers.{Answer, accepted, refused}
-use Rattle.refusals.proofs.Answering.{came-then, came-through}
+use Rattle.answers.specs.Answers.{Answer, accepted, refused}
+use Rattle.answers.proofs.Answering.{came-then, came-through}
 use Rattle.function_ids.specs.FunctionIds.{functionNumber}
 use Rattle.function_ids.specs.declared.FunctionId.{FunctionId}
 use Rattle.function_ids.specs.CallTable.{numberIn, kept}

@@ -2,8 +2,8 @@
 use mathlib.Core.Path.{_≡_, ap, _∙_}
 use mathlib.Core.List.{List}
 use Prim.Native.Nat.{ℕ}
-use Rattle.refusals.specs.Answers.{Answer, accepted}
-use Rattle.refusals.specs.Lent.{left}
+use Rattle.answers.specs.Answers.{Answer, accepted}
+use Rattle.answers.specs.Lent.{left}
 use Rattle.function_ids.specs.declared.FunctionId.{FunctionId}
 use Rattle.encode_definition.specs.Encode.{encodeOf, writtenOf}
 use Rattle.original_calls.specs.OriginalFunctions.{functionOf, originalIdOf}

@@ -5,8 +5,8 @@ use Prim.Native.Nat.{ℕ}
 use native.Mathlib.Nat.{mod-mod}
 use lib.ListN.{length, getD}
 use borrow.Author.Tests.{eq-eqb}
-use Rattle.refusals.specs.Answers.{Answer, accepted, through}
-use Rattle.refusals.proofs.Answering.{came-then, same-accepted}
+use Rattle.answers.specs.Answers.{Answer, accepted, through}
+use Rattle.answers.proofs.Answering.{came-then, same-accepted}
 use Rattle.function_ids.specs.FunctionIds.{functionNumber}
 use Rattle.function_ids.specs.declared.FunctionId.{FunctionId}
 use Rattle.function_ids.specs.declared.FunctionId.the-variants as id

@@ -3,7 +3,7 @@ use mathlib.Core.Path.{_≡_, refl}
 use mathlib.Core.List.{List, [], _∷_}
 use Prim.Native.Nat.{ℕ, _%_, _^_, _<_}
 use native.Mathlib.Omega.{arith}
-use Rattle.refusals.specs.Answers.{Answer, accepted, refused, through}
+use Rattle.answers.specs.Answers.{Answer, accepted, refused, through}
 use Rattle.function_ids.specs.FunctionIds.{Form, narrow, wide, functionNumber}
 use Rattle.function_ids.specs.declared.FunctionId.{FunctionId}
 use Rattle.function_ids.specs.declared.FunctionId.the-variants as id

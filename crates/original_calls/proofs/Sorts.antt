@@ -1,7 +1,7 @@
 -- A call of document 01's has a power state, and then one of the six numbers, or it is one of the 19 others. Assumes nothing.
 use mathlib.Core.Path.{_≡_, refl, ap}
 use mathlib.Core.Logic.{_⊎_, inl, inr}
-use Rattle.refusals.specs.Answers.{accepted}
+use Rattle.answers.specs.Answers.{accepted}
 use Rattle.function_ids.specs.FunctionIds.{Form, narrow, wide, functionNumber}
 use Rattle.function_ids.specs.declared.FunctionId.{FunctionId}
 use Rattle.function_ids.specs.declared.FunctionId.the-variants as id

@@ -2,8 +2,8 @@
 use mathlib.Core.Path.{_≡_, refl}
 use mathlib.Core.List.{List}
 use Prim.Native.Nat.{ℕ}
-use Rattle.refusals.specs.Answers.{Answer, accepted, refused, through}
-use Rattle.refusals.proofs.Answering.{through-twice}
+use Rattle.answers.specs.Answers.{Answer, accepted, refused, through}
+use Rattle.answers.proofs.Answering.{through-twice}
 use Rattle.function_ids.specs.declared.FunctionId.{FunctionId}
 use Rattle.function_ids.specs.declared.FunctionId.the-variants as id
 use Rattle.function_ids.specs.CallTable.{Kind, powerState, mpidr}

@@ -4,7 +4,7 @@ use mathlib.Core.Bool.{cond}
 use mathlib.Core.List.{List, [], _∷_}
 use Prim.Native.Nat.{ℕ}
 use lib.ListN.{getD}
-use Rattle.refusals.specs.Answers.{Answer, through, andThen}
+use Rattle.answers.specs.Answers.{Answer, through, andThen}
 use Rattle.function_ids.specs.FunctionIds.{readFunctionId}
 use Rattle.function_ids.specs.declared.FunctionId.{FunctionId}
 use Rattle.function_ids.specs.CallTable.{Kind, powerState, sameKind, ruleOf, kept, valueIn}

@@ -5,7 +5,7 @@ use mathlib.Core.Bool.{true, false}
 use mathlib.Core.List.{[], _∷_}
 use Prim.Native.Nat.{ℕ}
 use lib.IntN.{pos}
-use Rattle.refusals.specs.Answers.{accepted, refused}
+use Rattle.answers.specs.Answers.{accepted, refused}
 use Rattle.words.specs.Mpidrs.{mpidrOf}
 use Rattle.words.specs.OriginalPowerStates.{readOriginalPowerState, writeOriginalPowerState}
 use Rattle.words.specs.declared.mpidrs.Aff3.the-variants.{None}

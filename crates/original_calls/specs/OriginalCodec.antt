@@ -2,7 +2,7 @@
 -- protect's r1 too.
 use mathlib.Core.List.{List}
 use Prim.Native.Nat.{ℕ}
-use Rattle.refusals.specs.Answers.{Answer}
+use Rattle.answers.specs.Answers.{Answer}
 use Rattle.function_ids.specs.CallTable.{lookAt}
 use Rattle.roundtrip.specs.Codec.{Codec, Demand3}
 use Rattle.roundtrip.specs.Recode.{recodeBy}

@@ -1,7 +1,7 @@
 -- Document 02, Change 1: the typed calls of a board that is set to the original power state. They are document 01's calls one for one: the 19 that
 -- have no power state are held as they are, and suspend, residency and count have a power state of the original format in the place of 01's.
-use Rattle.refusals.specs.Answers.{Answer, accepted}
-use Rattle.refusals.specs.Errors.{refusal}
+use Rattle.answers.specs.Answers.{Answer, accepted}
+use Rattle.answers.specs.Errors.{refusal}
 use Rattle.function_ids.specs.declared.FunctionId.{FunctionId}
 use Rattle.function_ids.specs.declared.FunctionId.the-variants as id
 use Rattle.words.specs.declared.original_power_states.OriginalPowerState.{OriginalPowerState}

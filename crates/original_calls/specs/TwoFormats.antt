@@ -6,7 +6,7 @@ use mathlib.Core.List.{List, [], _∷_}
 use Prim.Native.Nat.{ℕ, _<_}
 use lib.IntN.{pos}
 use Rattle.bits.specs.Bits.{_for_, only}
-use Rattle.refusals.specs.Answers.{Answer, accepted, refused, through}
+use Rattle.answers.specs.Answers.{Answer, accepted, refused, through}
 use Rattle.function_ids.specs.FunctionIds.{functionNumber}
 use Rattle.function_ids.specs.declared.FunctionId.{FunctionId}
 use Rattle.function_ids.specs.declared.FunctionId.the-variants as id

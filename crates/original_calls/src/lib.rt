@@ -3,7 +3,7 @@
 ghost use mathlib.Core.List.{_∷_, []};
 ghost use mathlib.Core.Path.{_≡_};
 ghost use lib.ListN.{getD};
-ghost use Rattle.refusals.specs.Lent.{left};
+ghost use Rattle.answers.specs.Lent.{left};
 ghost use Rattle.words.specs.OriginalPowerStates.{readOriginalPowerState, originalPowerStateAnswer};
 ghost use Rattle.function.specs.Functions.{functionAnswer};
 ghost use Rattle.decode_definition.specs.Decode.{decodeOf};

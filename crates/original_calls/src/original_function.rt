@@ -6,7 +6,7 @@ use function::Function;
 use function::forms;
 use function_ids::FunctionId;
 use function_ids::FunctionIdResult;
-use refusals::Error;
+use answers::Error;
 use words::Cookie;
 use words::EntryPoint;
 use words::MemProtectRange;

@@ -5,7 +5,7 @@ use Prim.Native.Nat.{ℕ}
 use lib.IntN.{ℤ}
 use lib.ListN.{getD, length}
 use borrow.Author.Tests.{eq-eqb, ne-eqb}
-use Rattle.refusals.specs.Answers.{accepted, refused}
+use Rattle.answers.specs.Answers.{accepted, refused}
 use Rattle.function.specs.declared.Function.{Function}
 use Rattle.call_exports.specs.FromParts.{entryIn}
 use Rattle.call_exports.specs.CallAsked.{callAt}

@@ -9,8 +9,8 @@ use lib.Dec.{eqb}
 use lib.IntN.{pos}
 use lib.ListN.{getD}
 use Rattle.bits.specs.Bits.{bits, only}
-use Rattle.refusals.specs.Answers.{accepted, through}
-use Rattle.refusals.proofs.Answering.{passed, came-then, came-through, same-accepted}
+use Rattle.answers.specs.Answers.{accepted, through}
+use Rattle.answers.proofs.Answering.{passed, came-then, came-through, same-accepted}
 use Rattle.words.specs.Flags.{flagWord}
 use Rattle.words.specs.OriginalPowerStates.{powerDownField, originalPowerStateFields, readOriginalPowerState}
 use Rattle.words.specs.declared.entry_points.EntryPoint.{EntryPoint}

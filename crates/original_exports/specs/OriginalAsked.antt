@@ -5,7 +5,7 @@ use Prim.Native.Nat.{ℕ}
 use lib.Dec.{eqb}
 use lib.IntN.{pos}
 use lib.ListN.{getD}
-use Rattle.refusals.specs.Answers.{Answer, accepted, refused, through, andThen}
+use Rattle.answers.specs.Answers.{Answer, accepted, refused, through, andThen}
 use Rattle.words.specs.declared.original_power_states.OriginalPowerState.{OriginalPowerState}
 use Rattle.call_exports.specs.PlainWords.{half, byte, ofParts}
 use Rattle.call_exports.specs.FromParts.{entryIn}

@@ -1,9 +1,9 @@
 // The codec of boards that are set to the original power state over plain words, for callers in C and Rust: decode, encode, and one after the other. A
 // call is handed over as nine words.
 ghost use mathlib.Core.Path.{_≡_};
-ghost use Rattle.refusals.specs.Answers.{through};
-ghost use Rattle.refusals.specs.Lent.{left};
-ghost use Rattle.refusals.specs.Told.{refusalIn};
+ghost use Rattle.answers.specs.Answers.{through};
+ghost use Rattle.answers.specs.Lent.{left};
+ghost use Rattle.answers.specs.Told.{refusalIn};
 ghost use Rattle.original_calls.specs.OriginalCalls.{originalDecodeOf};
 ghost use Rattle.original_calls.specs.OriginalCodec.{recodeOriginal};
 ghost use Rattle.original_exports.specs.OriginalWords.{originalWords};
@@ -21,9 +21,9 @@ use original_calls::OriginalFunctionResult;
 use original_calls::decode_original;
 use original_calls::encode_original;
 use original_calls::recode_original;
-use refusals::told::Refusal;
-use refusals::told::accepted_words;
-use refusals::told::refusal_of;
+use answers::told::Refusal;
+use answers::told::accepted_words;
+use answers::told::refusal_of;
 
 // The nine words of the call that four registers make. Refused with decode's numbers, 1, 3 to 8 and 26; the lent words are then as they were.
 #[no_mangle]

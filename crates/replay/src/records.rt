@@ -2,9 +2,9 @@
 // An answer changes only what it gives; every other word stays as it was asked.
 use call_exports::parts::wide32;
 use call_exports::plain_words::differing_bits;
-use refusals::Error;
-use refusals::WordResult;
-use refusals::told::Refusal;
+use answers::Error;
+use answers::WordResult;
+use answers::told::Refusal;
 
 // Refusals of the record itself, beside the papers': an operation that there is not, a tag that no call has, and a part that has no room
 // in its place.

@@ -17,7 +17,7 @@ use line_exports::psci_line;
 use original_exports::original_asked::OriginalAsked;
 use original_exports::original_asked::original_asked;
 use original_exports::psci_recode_original;
-use refusals::told::Refusal;
+use answers::told::Refusal;
 
 // Operations that only a labelled record has: a heading, which is a label alone; a call written to a lent run, whose length is word 15, by
 // document 01 or with an original power state; and, each by the function that is exported to C, the three recodes of four registers and the line of a

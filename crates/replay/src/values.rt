@@ -17,7 +17,7 @@ use call_exports::plain_words::low32;
 use codes::ErrorCode;
 use codes::ReturnCode;
 use function_ids::FunctionId;
-use refusals::Error;
+use answers::Error;
 use words::EntryPoint;
 use words::HwState;
 use words::Mpidr;

@@ -11,10 +11,10 @@ use lib.ListN.{length, getD}
 use lib.Pow.{pow-mono}
 use borrow.Author.Tests.{eqb-true, eqb-false, eq-eqb, ne-eqb}
 use Rattle.bits.proofs.Picks.{choice}
-use Rattle.refusals.specs.Answers.{Answer, accepted}
-use Rattle.refusals.specs.Lent.{left}
-use Rattle.refusals.proofs.Answering.{same-accepted}
-use Rattle.refusals.proofs.Lending.{fronted-all}
+use Rattle.answers.specs.Answers.{Answer, accepted}
+use Rattle.answers.specs.Lent.{left}
+use Rattle.answers.proofs.Answering.{same-accepted}
+use Rattle.answers.proofs.Lending.{fronted-all}
 use Rattle.function_ids.specs.CallTable.{Part, lowHalf, whole, partOf, Look, nothing, value, zeroOrNot, keep, numberIn, keptBy}
 use Rattle.roundtrip.specs.Codec.{Codec, Registers, bit, width, InField, AgreeIn, Agree, Inside, wordsIn, OfOne, OfTwo, Demand3}
 use Rattle.roundtrip.proofs.Bits.{bits-mod, mod-bits}

@@ -6,8 +6,8 @@ use native.Mathlib.Omega.{arith}
 use lib.Dec.{eqb}
 use lib.ListN.{length, getD}
 use borrow.Author.Tests.{eq-eqb}
-use Rattle.refusals.specs.Answers.{Answer, accepted}
-use Rattle.refusals.proofs.Answering.{came-then}
+use Rattle.answers.specs.Answers.{Answer, accepted}
+use Rattle.answers.proofs.Answering.{came-then}
 use Rattle.function_ids.specs.FunctionIds.{functionNumber, readFunctionId}
 use Rattle.function_ids.specs.declared.FunctionId.{FunctionId}
 use Rattle.function_ids.proofs.FunctionIdLaws.{function-number}

@@ -5,9 +5,9 @@ use mathlib.Core.List.{List}
 use Prim.Native.Nat.{ℕ}
 use lib.IntN.{ℤ}
 use lib.ListN.{length}
-use Rattle.refusals.specs.Answers.{Answer, accepted, refused, andThen}
-use Rattle.refusals.specs.Lent.{left}
-use Rattle.refusals.proofs.Answering.{same-accepted, came-then}
+use Rattle.answers.specs.Answers.{Answer, accepted, refused, andThen}
+use Rattle.answers.specs.Lent.{left}
+use Rattle.answers.proofs.Answering.{same-accepted, came-then}
 use Rattle.function.specs.declared.Function.{Function}
 use Rattle.decode_definition.specs.Decode.{decodeOf}
 use Rattle.decode_definition.specs.TwoDecodings.{lowHalfForProtect}

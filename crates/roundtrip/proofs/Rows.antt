@@ -6,9 +6,9 @@ use Prim.Native.Nat.{ℕ, zero, suc, _^_, _<_}
 use native.Mathlib.Omega.{arith}
 use lib.Dec.{leb}
 use lib.IntN.{pos}
-use Rattle.refusals.specs.Answers.{Answer, accepted, refused, through}
-use Rattle.refusals.specs.Inverses.{WritesBack, always, Word32}
-use Rattle.refusals.proofs.Answering.{same-accepted}
+use Rattle.answers.specs.Answers.{Answer, accepted, refused, through}
+use Rattle.answers.specs.Inverses.{WritesBack, always, Word32}
+use Rattle.answers.proofs.Answering.{same-accepted}
 use Rattle.function_ids.specs.FunctionIds.{Form, narrow, wide, functionNumber}
 use Rattle.function_ids.specs.declared.FunctionId.{FunctionId}
 use Rattle.function_ids.specs.declared.FunctionId.the-variants as id

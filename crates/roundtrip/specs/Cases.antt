@@ -5,7 +5,7 @@ use mathlib.Core.List.{List, [], _∷_}
 use Prim.Native.Nat.{ℕ}
 use lib.IntN.{pos}
 use Rattle.bits.specs.Signs.{signed, wordOf}
-use Rattle.refusals.specs.Answers.{accepted, refused}
+use Rattle.answers.specs.Answers.{accepted, refused}
 use Rattle.codes.specs.Codes.{codeNumber, readErrorCode, readErrorCode64}
 use Rattle.codes.specs.declared.ErrorCode.the-variants.{InvalidAddress}
 use Rattle.words.specs.Mpidrs.{mpidrOf}

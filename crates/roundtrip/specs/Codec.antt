@@ -5,8 +5,8 @@ use mathlib.Core.List.{List}
 use mathlib.Core.Logic.{_⊎_}
 use Prim.Native.Nat.{ℕ, zero, suc, _/_, _%_, _^_, _<_}
 use lib.ListN.{length, getD}
-use Rattle.refusals.specs.Answers.{Answer, accepted}
-use Rattle.refusals.specs.Lent.{left}
+use Rattle.answers.specs.Answers.{Answer, accepted}
+use Rattle.answers.specs.Lent.{left}
 use Rattle.function_ids.specs.CallTable.{Part, lowHalf, whole, partOf, Look, nothing, value, zeroOrNot, keep, numberIn}
 
 -- A codec: its typed calls, what decoding gives for four registers, what encoding gives for a call and a lent run, and what is looked at

@@ -1,7 +1,7 @@
 -- Decoding, then encoding into a lent run: the set's call, written again; by any codec, by document 01's and by Change 2's.
 use mathlib.Core.List.{List}
 use Prim.Native.Nat.{ℕ}
-use Rattle.refusals.specs.Answers.{Answer, andThen}
+use Rattle.answers.specs.Answers.{Answer, andThen}
 use Rattle.roundtrip.specs.Codec.{Codec}
 use Rattle.roundtrip.specs.Psci.{psci}
 use Rattle.roundtrip.specs.Smccc.{smccc}

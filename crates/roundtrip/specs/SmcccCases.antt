@@ -3,7 +3,7 @@ use mathlib.Core.Path.{_≡_}
 use mathlib.Core.Bool.{Bool, true, false}
 use mathlib.Core.List.{[], _∷_}
 use Prim.Native.Nat.{ℕ}
-use Rattle.refusals.specs.Answers.{accepted}
+use Rattle.answers.specs.Answers.{accepted}
 use Rattle.function.specs.declared.Function.the-variants.{MemProtect}
 use Rattle.decode_definition.specs.Decode.{decodeSmccc}
 use Rattle.roundtrip.specs.Cases.{EncodesTo}

@@ -1,7 +1,7 @@
 // Demand 3: what is decoded encodes, decodes back and is zero elsewhere: statement, proof, and `recode` and `recode_smccc`, the program's part
 // in it.
 ghost use mathlib.Core.Path.{_≡_};
-ghost use Rattle.refusals.specs.Lent.{left};
+ghost use Rattle.answers.specs.Lent.{left};
 ghost use Rattle.decode_definition.specs.Decode.{decodeOf, decodeSmccc};
 ghost use Rattle.encode.specs.Answers.{encodeAnswer};
 ghost use Rattle.encode.specs.declared.EncodeResult.the-variants.{Ok as Written};

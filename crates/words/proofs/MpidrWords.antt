@@ -7,10 +7,10 @@ use lib.IntN.{pos}
 use lib.ListN.{getD}
 use borrow.Author.Tests.{eqb-true}
 use Rattle.bits.specs.Bits.{_for_, bits, cutTo, only}
-use Rattle.refusals.specs.Answers.{accepted}
-use Rattle.refusals.specs.Inverses.{WritesBack, ReadsBack, always, Word32, Word64}
-use Rattle.refusals.proofs.Answering.{passed}
-use Rattle.refusals.proofs.FieldWords.{Put, read-put, fields-write, fields-read}
+use Rattle.answers.specs.Answers.{accepted}
+use Rattle.answers.specs.Inverses.{WritesBack, ReadsBack, always, Word32, Word64}
+use Rattle.answers.proofs.Answering.{passed}
+use Rattle.answers.proofs.FieldWords.{Put, read-put, fields-write, fields-read}
 use Rattle.words.specs.MpidrLaws.{Without3, With3}
 use Rattle.words.specs.Mpidrs.{mpidrOf, mpidr32, mpidr64, fields32, fields64, lowWord, aff3Number, readMpidr32, readMpidr64, writeMpidr32, writeMpidr64}
 use Rattle.words.specs.declared.mpidrs.Aff3.{Aff3}

@@ -3,11 +3,11 @@ use mathlib.Core.Path.{_≡_, refl, sym, ap, _∙_}
 use Prim.Native.Nat.{ℕ}
 use borrow.Author.Tests.{eqb-true, ne-eqb}
 use Rattle.bits.proofs.Picks.{if-false}
-use Rattle.refusals.specs.Answers.{accepted, through}
-use Rattle.refusals.specs.Inverses.{WritesBack, ReadsBack, always, Word32, Any}
-use Rattle.refusals.proofs.Answering.{not-accepted, at-once-or-through}
-use Rattle.refusals.proofs.Choosing.{numbered-writes, numbered-reads}
-use Rattle.refusals.proofs.Inverting.{writes-always, reads-always}
+use Rattle.answers.specs.Answers.{accepted, through}
+use Rattle.answers.specs.Inverses.{WritesBack, ReadsBack, always, Word32, Any}
+use Rattle.answers.proofs.Answering.{not-accepted, at-once-or-through}
+use Rattle.answers.proofs.Choosing.{numbered-writes, numbered-reads}
+use Rattle.answers.proofs.Inverting.{writes-always, reads-always}
 use Rattle.function_ids.specs.FunctionIds.{functionNumber, readFunctionId}
 use Rattle.function_ids.proofs.FunctionIdLaws.{function-number, function-back}
 use Rattle.function_ids.specs.declared.FunctionId.{FunctionId}

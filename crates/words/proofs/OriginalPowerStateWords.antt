@@ -10,10 +10,10 @@ use lib.ListN.{getD}
 use borrow.Author.Tests.{le-leb, lt-leb, leb-true}
 use Rattle.bits.specs.Bits.{bits, put}
 use Rattle.bits.proofs.Picks.{if-true, if-false}
-use Rattle.refusals.specs.Answers.{accepted, refused}
-use Rattle.refusals.specs.Inverses.{WritesBack, ReadsBack, Word32}
-use Rattle.refusals.proofs.Answering.{passed}
-use Rattle.refusals.proofs.FieldWords.{Put, fields-write, fields-read}
+use Rattle.answers.specs.Answers.{accepted, refused}
+use Rattle.answers.specs.Inverses.{WritesBack, ReadsBack, Word32}
+use Rattle.answers.proofs.Answering.{passed}
+use Rattle.answers.proofs.FieldWords.{Put, fields-write, fields-read}
 use Rattle.words.specs.Flags.{flagWord}
 use Rattle.words.specs.OriginalPowerStateLaws.{Id16}
 use Rattle.words.specs.OriginalPowerStates.{originalPowerStateFields, stateIdField, powerDownField, levelField, originalPowerStateOf, readOriginalPowerState, writeOriginalPowerState}

@@ -10,10 +10,10 @@ use lib.ListN.{getD}
 use borrow.Author.Tests.{le-leb, lt-leb, leb-true, eqb-true, eqb-false}
 use Rattle.bits.specs.Bits.{bits, put, cutTo}
 use Rattle.bits.proofs.Picks.{if-true, if-false}
-use Rattle.refusals.specs.Answers.{accepted, refused}
-use Rattle.refusals.specs.Inverses.{WritesBack, ReadsBack, Word32, Any}
-use Rattle.refusals.proofs.Answering.{passed}
-use Rattle.refusals.proofs.FieldWords.{Put, fields-write, fields-read}
+use Rattle.answers.specs.Answers.{accepted, refused}
+use Rattle.answers.specs.Inverses.{WritesBack, ReadsBack, Word32, Any}
+use Rattle.answers.proofs.Answering.{passed}
+use Rattle.answers.proofs.FieldWords.{Put, fields-write, fields-read}
 use Rattle.words.specs.PowerStates.{powerStateFields, stateIdField, powerDownField, withStateId, readPowerState, writePowerState}
 use Rattle.words.specs.declared.power_states.PowerState.{PowerState}
 use Rattle.words.specs.declared.power_states.PowerState.the-variants.{StandbyOrRetention, PowerDown}

@@ -7,11 +7,11 @@ use lib.IntN.{pos}
 use borrow.Author.Tests.{le-leb, lt-leb, leb-true, eq-eqb, eqb-true}
 use Rattle.bits.specs.Bits.{bits, put}
 use Rattle.bits.proofs.Picks.{if-true, if-false}
-use Rattle.refusals.specs.Answers.{accepted, refused}
-use Rattle.refusals.specs.Inverses.{WritesBack, ReadsBack, Apart, always, Word32, Any}
-use Rattle.refusals.proofs.Answering.{passed, at-once-or-through}
-use Rattle.refusals.proofs.Choosing.{numbered-is, numbered-writes, numbered-reads}
-use Rattle.refusals.proofs.Inverting.{reads-apart}
+use Rattle.answers.specs.Answers.{accepted, refused}
+use Rattle.answers.specs.Inverses.{WritesBack, ReadsBack, Apart, always, Word32, Any}
+use Rattle.answers.proofs.Answering.{passed, at-once-or-through}
+use Rattle.answers.proofs.Choosing.{numbered-is, numbered-writes, numbered-reads}
+use Rattle.answers.proofs.Inverting.{reads-apart}
 use Rattle.words.specs.ResetTypes.{architecturalNumber, architecturalTypes, vendorField, vendorTypeField, resetTypeFields, readArchitecturalResetType, readResetType, writeResetType}
 use Rattle.words.specs.declared.reset_types.ArchitecturalResetType.{ArchitecturalResetType}
 use Rattle.words.specs.declared.reset_types.ArchitecturalResetType.the-variants.{SystemWarmReset}

@@ -8,10 +8,10 @@ use lib.ListN.{getD}
 use borrow.Author.Tests.{le-leb, leb-true}
 use Rattle.bits.specs.Bits.{bits, put}
 use Rattle.bits.proofs.Picks.{if-true}
-use Rattle.refusals.specs.Answers.{accepted}
-use Rattle.refusals.specs.Inverses.{WritesBack, ReadsBack, Word32}
-use Rattle.refusals.proofs.Answering.{passed}
-use Rattle.refusals.proofs.FieldWords.{Put, fields-write, fields-read}
+use Rattle.answers.specs.Answers.{accepted}
+use Rattle.answers.specs.Inverses.{WritesBack, ReadsBack, Word32}
+use Rattle.answers.proofs.Answering.{passed}
+use Rattle.answers.proofs.FieldWords.{Put, fields-write, fields-read}
 use Rattle.words.specs.VersionLaws.{Halves}
 use Rattle.words.specs.Versions.{versionOf, versionFields, majorField, readVersion, writeVersion}
 use Rattle.words.specs.declared.versions.Version.{Version}

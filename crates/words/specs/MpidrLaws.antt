@@ -2,8 +2,8 @@
 -- paper implies stand behind that. Document 02, Change 4: the masks of a register's halves.
 use mathlib.Core.Path.{_≡_}
 use Prim.Native.Nat.{ℕ, _^_, _<_}
-use Rattle.refusals.specs.Answers.{accepted}
-use Rattle.refusals.specs.Inverses.{WritesBack, ReadsBack, always, Word32, Word64}
+use Rattle.answers.specs.Answers.{accepted}
+use Rattle.answers.specs.Inverses.{WritesBack, ReadsBack, always, Word32, Word64}
 use Rattle.bits.specs.Halves.{registerOf}
 use Rattle.words.specs.Mpidrs.{mpidrOf, readMpidr32, readMpidr64, writeMpidr32, writeMpidr64, mbzBits64, mbzHalves64}
 use Rattle.words.specs.declared.mpidrs.Aff3.the-variants.{None, Some}

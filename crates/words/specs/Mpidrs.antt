@@ -4,10 +4,10 @@ use mathlib.Core.List.{List, [], _∷_}
 use Prim.Native.Nat.{ℕ, _-_, _^_}
 use lib.Dec.{eqb}
 use lib.IntN.{pos}
-use Rattle.refusals.specs.Answers.{Answer, accepted, refused}
+use Rattle.answers.specs.Answers.{Answer, accepted, refused}
 use Rattle.bits.specs.Bits.{Field, _for_, bits, put, maskOf, only}
 use Rattle.bits.specs.declared.halves.Halves.{Halves}
-use Rattle.refusals.specs.Errors.{refusal}
+use Rattle.answers.specs.Errors.{refusal}
 use Rattle.words.specs.declared.mpidrs.Aff3.{Aff3}
 use Rattle.words.specs.declared.mpidrs.Aff3.the-variants.{None, Some}
 use Rattle.words.specs.declared.mpidrs.Mpidr.{Mpidr}

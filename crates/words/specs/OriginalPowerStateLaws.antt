@@ -3,8 +3,8 @@
 use mathlib.Core.Path.{_≡_}
 use Prim.Native.Nat.{_<_, _^_}
 use lib.IntN.{pos}
-use Rattle.refusals.specs.Answers.{refused}
-use Rattle.refusals.specs.Inverses.{WritesBack, ReadsBack, Word32}
+use Rattle.answers.specs.Answers.{refused}
+use Rattle.answers.specs.Inverses.{WritesBack, ReadsBack, Word32}
 use Rattle.words.specs.OriginalPowerStates.{readOriginalPowerState, writeOriginalPowerState}
 use Rattle.words.specs.declared.original_power_states.OriginalPowerState.{OriginalPowerState}
 

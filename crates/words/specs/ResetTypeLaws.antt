@@ -3,8 +3,8 @@
 use mathlib.Core.Path.{_≡_}
 use Prim.Native.Nat.{ℕ, _<_}
 use lib.IntN.{pos}
-use Rattle.refusals.specs.Answers.{refused}
-use Rattle.refusals.specs.Inverses.{WritesBack, ReadsBack, Apart, always, Word32, Any}
+use Rattle.answers.specs.Answers.{refused}
+use Rattle.answers.specs.Inverses.{WritesBack, ReadsBack, Apart, always, Word32, Any}
 use Rattle.words.specs.ResetTypes.{architecturalNumber, readArchitecturalResetType, readResetType, writeResetType}
 use Rattle.words.specs.declared.reset_types.ResetType.the-variants.{VendorSpecific}
 

@@ -5,8 +5,8 @@ use Prim.Native.Nat.{ℕ}
 use lib.Dec.{leb, eqb}
 use lib.IntN.{pos}
 use Rattle.bits.specs.Bits.{Field, _for_, bits, put}
-use Rattle.refusals.specs.Answers.{Answer, accepted, refused, choose, through}
-use Rattle.refusals.specs.Errors.{refusal}
+use Rattle.answers.specs.Answers.{Answer, accepted, refused, choose, through}
+use Rattle.answers.specs.Errors.{refusal}
 use Rattle.words.specs.declared.reset_types.ArchitecturalResetType.{ArchitecturalResetType}
 use Rattle.words.specs.declared.reset_types.ArchitecturalResetType.the-variants.{SystemWarmReset}
 use Rattle.words.specs.declared.reset_types.ArchitecturalResetTypeResult.{ArchitecturalResetTypeResult}

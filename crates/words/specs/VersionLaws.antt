@@ -1,6 +1,6 @@
 -- Document 01, "Single words": what the reader of a version accepts writes back, and what its writer gives reads back.
 use Prim.Native.Nat.{_^_, _<_}
-use Rattle.refusals.specs.Inverses.{WritesBack, ReadsBack, Word32}
+use Rattle.answers.specs.Inverses.{WritesBack, ReadsBack, Word32}
 use Rattle.words.specs.Versions.{readVersion, writeVersion}
 use Rattle.words.specs.declared.versions.Version.{Version}
 

@@ -1,5 +1,5 @@
 -- Document 01, "Single words": what each reader accepts writes back, and what each writer gives reads back.
-use Rattle.refusals.specs.Inverses.{WritesBack, ReadsBack, always, Word32, Any}
+use Rattle.answers.specs.Inverses.{WritesBack, ReadsBack, always, Word32, Any}
 use Rattle.words.specs.HwStates.{hwStateNumber, readHwState}
 use Rattle.words.specs.PsciFeatures.{featureNumber, readFeature}
 use Rattle.words.specs.SuspendModes.{suspendModeNumber, readSuspendMode}

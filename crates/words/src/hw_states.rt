@@ -1,6 +1,6 @@
 ghost use mathlib.Core.Path.{_≡_};
 ghost use Rattle.words.specs.HwStates.{readHwState, hwStateAnswer, hwStateNumber};
-use refusals::Error;
+use answers::Error;
 
 // NODE_HW_STATE return value, DEN0022 5.1.18.
 pub enum HwState {

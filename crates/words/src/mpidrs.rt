@@ -1,11 +1,11 @@
 // MPIDR, which names a core, with its readers and writers: document 01, "Single words".
 ghost use mathlib.Core.Path.{_≡_};
-ghost use Rattle.refusals.specs.Errors.{wordAnswer};
+ghost use Rattle.answers.specs.Errors.{wordAnswer};
 ghost use Rattle.bits.specs.Halves.{registerOf};
 ghost use Rattle.words.specs.Mpidrs.{readMpidr32, readMpidr64, mpidr64, writeMpidr32, writeMpidr64, mpidrAnswer, mpidrOf, lowWord, mbzBits64, mbzHalves64};
 use bits::halves::Halves;
-use refusals::Error;
-use refusals::WordResult;
+use answers::Error;
+use answers::WordResult;
 
 // Affinity 3, which a 32-bit MPIDR lacks.
 pub enum Aff3 {

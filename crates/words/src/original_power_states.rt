@@ -1,9 +1,9 @@
 // A power state in the original format, with its reader and its writer: document 02, Change 1.
 ghost use mathlib.Core.Path.{_≡_};
-ghost use Rattle.refusals.specs.Errors.{wordAnswer};
+ghost use Rattle.answers.specs.Errors.{wordAnswer};
 ghost use Rattle.words.specs.OriginalPowerStates.{readOriginalPowerState, writeOriginalPowerState, originalPowerStateAnswer};
-use refusals::Error;
-use refusals::WordResult;
+use answers::Error;
+use answers::WordResult;
 
 // A power state in DEN0022's original format. The word has room for a level of at most 3.
 pub struct OriginalPowerState {

@@ -1,10 +1,10 @@
 // A power state, with its reader and its writer: document 01, "Single words".
 ghost use mathlib.Core.Path.{_≡_};
 ghost use Prim.Native.Nat.{_/_, _%_, _^_};
-ghost use Rattle.refusals.specs.Errors.{wordAnswer};
+ghost use Rattle.answers.specs.Errors.{wordAnswer};
 ghost use Rattle.words.specs.PowerStates.{readPowerState, writePowerState, powerStateAnswer, withStateId};
-use refusals::Error;
-use refusals::WordResult;
+use answers::Error;
+use answers::WordResult;
 
 // A power state in the extended state ID format, DEN0022 table 8.
 pub enum PowerState {

@@ -1,9 +1,9 @@
 // Reset types, each with its reader and its writer: document 01, "Single words"; document 02, Change 5.
 ghost use mathlib.Core.Path.{_≡_};
-ghost use Rattle.refusals.specs.Errors.{wordAnswer};
+ghost use Rattle.answers.specs.Errors.{wordAnswer};
 ghost use Rattle.words.specs.ResetTypes.{architecturalNumber, readArchitecturalResetType, architecturalAnswer, readResetType, writeResetType, resetTypeAnswer};
-use refusals::Error;
-use refusals::WordResult;
+use answers::Error;
+use answers::WordResult;
 
 // SYSTEM_RESET2 architectural reset type, DEN0022 5.1.12.
 pub enum ArchitecturalResetType {

@@ -1,6 +1,6 @@
 ghost use mathlib.Core.Path.{_≡_};
 ghost use Rattle.words.specs.SuspendModes.{readSuspendMode, suspendModeAnswer, suspendModeNumber};
-use refusals::Error;
+use answers::Error;
 
 // PSCI_SET_SUSPEND_MODE mode, DEN0022 5.1.20.
 pub enum SuspendMode {

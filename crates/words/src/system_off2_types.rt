@@ -1,6 +1,6 @@
 ghost use mathlib.Core.Path.{_≡_};
 ghost use Rattle.words.specs.SystemOff2Types.{readSystemOff2Type, systemOff2Answer, systemOff2Number};
-use refusals::Error;
+use answers::Error;
 
 // SYSTEM_OFF2 type, DEN0022 5.1.10.
 pub enum SystemOff2Type {

@@ -1,9 +1,9 @@
 // A version, with its reader and its writer: document 01, "Single words".
 ghost use mathlib.Core.Path.{_≡_};
-ghost use Rattle.refusals.specs.Errors.{wordAnswer};
+ghost use Rattle.answers.specs.Errors.{wordAnswer};
 ghost use Rattle.words.specs.Versions.{readVersion, writeVersion, versionAnswer};
-use refusals::Error;
-use refusals::WordResult;
+use answers::Error;
+use answers::WordResult;
 
 // A PSCI version.
 pub struct Version {

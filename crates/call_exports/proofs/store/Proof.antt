@@ -6,7 +6,7 @@ use borrow.Author.Needs.{needs}
 use borrow.Author.Tests.{eq-eqb, ne-eqb}
 use lib.ListN.{length-set}
 use Rattle.bits.proofs.Picks.{if-true, if-false}
-use Rattle.refusals.proofs.Lending.{stored-all}
+use Rattle.answers.proofs.Lending.{stored-all}
 use Rattle.call_exports.proofs.store.Statement.{statement}
 use Rattle.call_exports.proofs.store.Tie as tie
 

@@ -2,7 +2,7 @@
 -- Assumes nothing.
 use mathlib.Core.Path.{sym, ap, _∙_}
 use borrow.Author.Needs.{needs}
-use Rattle.refusals.specs.Told.{refusalIn}
+use Rattle.answers.specs.Told.{refusalIn}
 use Rattle.encode.specs.Answers.{encodeAnswer}
 use Rattle.encode.specs.declared.EncodeResult.{EncodeResult}
 use Rattle.call_exports.proofs.told_words.Statement.{statement}

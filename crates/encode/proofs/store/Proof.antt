@@ -1,7 +1,7 @@
 -- `encode::store` meets its contract.
 -- Assumes nothing.
 use borrow.Author.Needs.{needs}
-use Rattle.refusals.proofs.Lending.{stored-all}
+use Rattle.answers.proofs.Lending.{stored-all}
 use Rattle.encode.proofs.store.Statement.{statement}
 use Rattle.encode.proofs.store.Tie as tie
 

@@ -2,7 +2,7 @@
 use native.Mathlib.Omega.{arith}
 use borrow.Author.Needs.{needs}
 use lib.ListN.{length-set}
-use Rattle.refusals.proofs.Lending.{stored-all}
+use Rattle.answers.proofs.Lending.{stored-all}
 use Rattle.mpidr_bench.proofs.store.Statement.{statement}
 use Rattle.mpidr_bench.proofs.store.Tie as tie
 

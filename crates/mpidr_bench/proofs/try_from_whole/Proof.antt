@@ -4,7 +4,7 @@ use native.Mathlib.Nat.{div-one}
 use lib.Bits.{bitAnd}
 use lib.Dec.{lit<}
 use borrow.Author.Needs.{needs}
-use Rattle.refusals.specs.Answers.{accepted}
+use Rattle.answers.specs.Answers.{accepted}
 use Rattle.words.specs.Mpidrs.{readMpidr64, fields64}
 use Rattle.bits.proofs.Masks.{none-outside, some-outside}
 use Rattle.bits.proofs.Picks.{if-true, if-false}

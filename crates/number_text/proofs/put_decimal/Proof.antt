@@ -1,7 +1,7 @@
 -- `number_text::put_decimal` meets its contract. Assumes nothing.
 use native.Mathlib.Omega.{arith}
 use borrow.Author.Needs.{needs}
-use Rattle.refusals.proofs.Lending.{no-room, with-room}
+use Rattle.answers.proofs.Lending.{no-room, with-room}
 use Rattle.number_text.proofs.put_decimal.Statement.{statement}
 use Rattle.number_text.proofs.put_decimal.Tie as tie
 

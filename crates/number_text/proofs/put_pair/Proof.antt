@@ -1,7 +1,7 @@
 -- `number_text::put_pair` meets its contract. Assumes nothing.
 use native.Mathlib.Omega.{arith}
 use borrow.Author.Needs.{needs}
-use Rattle.refusals.proofs.Lending.{wrote-then, no-room, with-room}
+use Rattle.answers.proofs.Lending.{wrote-then, no-room, with-room}
 use Rattle.number_text.proofs.Laws.{length-decimal}
 use Rattle.number_text.proofs.put_pair.Statement.{statement}
 use Rattle.number_text.proofs.put_pair.Tie as tie

@@ -2,7 +2,7 @@
 use native.Mathlib.Omega.{arith}
 use lib.ListN.{getD}
 use borrow.Author.Needs.{needs}
-use Rattle.refusals.proofs.Lending.{wrote-then, no-room, with-room}
+use Rattle.answers.proofs.Lending.{wrote-then, no-room, with-room}
 use Rattle.number_text.proofs.Laws.{length-hexadecimal}
 use Rattle.number_text.proofs.put_words.Statement.{statement}
 use Rattle.number_text.proofs.put_words.Tie as tie

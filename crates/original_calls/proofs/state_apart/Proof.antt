@@ -1,7 +1,7 @@
 -- `original_calls::state_apart` meets its contract: each arm by the row of its function, and the last one outside of the six numbers. Assumes nothing.
 use mathlib.Core.Path.{refl, sym, ap, _∙_}
 use borrow.Author.Needs.{needs}
-use Rattle.refusals.specs.Answers.{Answer}
+use Rattle.answers.specs.Answers.{Answer}
 use Rattle.function_ids.specs.declared.FunctionId.the-variants as id
 use Rattle.function_ids.specs.CallTable.{ruleOf}
 use Rattle.function.specs.declared.Function.{Function}

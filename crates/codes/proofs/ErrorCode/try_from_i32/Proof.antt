@@ -5,9 +5,9 @@ use lib.IntN.{ℤ, pos, negsuc}
 use mir.Syntax.{w32}
 use mir.Val.{ofZ}
 use mir.Facts.{toZ-ofZ}
-use Rattle.refusals.specs.Answers.{refused}
+use Rattle.answers.specs.Answers.{refused}
 use Rattle.codes.specs.Codes.{codeSize, errorCodes, readErrorCode}
-use Rattle.refusals.proofs.Choosing.{NoneOf, none-chosen}
+use Rattle.answers.proofs.Choosing.{NoneOf, none-chosen}
 use Rattle.bits.proofs.TwosComplement.{number-is}
 use Rattle.codes.proofs.ErrorCode.try_from_i32.Statement.{statement}
 use Rattle.codes.proofs.ErrorCode.try_from_i32.Tie as tie

@@ -6,7 +6,7 @@ use lib.IntN.{negsuc}
 use mir.Facts.{toZ-ofZ}
 use borrow.Author.Needs.{needs}
 use borrow.Author.Tests.{lt-ltb}
-use Rattle.refusals.specs.Answers.{refused}
+use Rattle.answers.specs.Answers.{refused}
 use Rattle.codes.specs.Codes.{readErrorCode, readErrorCode64}
 use Rattle.bits.specs.Signs.{signed}
 use Rattle.bits.proofs.Picks.{if-true, if-false}

@@ -7,7 +7,7 @@ use mir.Val.{ofZ}
 use mir.Facts.{toZ-ofZ}
 use borrow.Author.Needs.{needs}
 use borrow.Author.Tests.{ne-eqb}
-use Rattle.refusals.specs.Answers.{through}
+use Rattle.answers.specs.Answers.{through}
 use Rattle.codes.specs.Codes.{readErrorCode, readReturnCode, errorCodeAnswer}
 use Rattle.codes.specs.declared.ReturnCode.the-variants as return
 use Rattle.bits.proofs.Picks.{if-false}

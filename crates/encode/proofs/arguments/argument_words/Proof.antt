@@ -1,7 +1,7 @@
 -- `encode::arguments::argument_words` meets its contract.
 -- Assumes nothing.
 use borrow.Author.Needs.{needs}
-use Rattle.refusals.proofs.Answering.{through-twice}
+use Rattle.answers.proofs.Answering.{through-twice}
 use Rattle.encode_definition.specs.Arguments.{argumentsOf}
 use Rattle.encode.proofs.arguments.argument_words.Statement.{statement}
 use Rattle.encode.proofs.arguments.argument_words.Tie as tie

@@ -1,7 +1,7 @@
 -- `FunctionId::try_from_u32` meets its contract: the last arm has the number of no function, and each other arm that of its own. Assumes nothing.
 use mathlib.Core.Path.{sym, ap}
 use Rattle.function_ids.specs.FunctionIds.{functionNumber, readFunctionId, functions}
-use Rattle.refusals.proofs.Choosing.{none-chosen}
+use Rattle.answers.proofs.Choosing.{none-chosen}
 use Rattle.function_ids.proofs.FunctionId.try_from_u32.Statement.{statement}
 use Rattle.function_ids.proofs.FunctionId.try_from_u32.Tie as tie
 

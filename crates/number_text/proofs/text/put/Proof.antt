@@ -1,6 +1,6 @@
 -- `number_text::text::put` meets its contract. Assumes nothing.
 use borrow.Author.Needs.{needs}
-use Rattle.refusals.proofs.Lending.{wrote-byte}
+use Rattle.answers.proofs.Lending.{wrote-byte}
 use Rattle.number_text.proofs.text.put.Statement.{statement}
 use Rattle.number_text.proofs.text.put.Tie as tie
 

@@ -4,7 +4,7 @@ use lib.Dec.{eqb}
 use lib.IntN.{pos}
 use borrow.Author.Needs.{needs}
 use borrow.Author.Tests.{eq-eqb, ne-eqb}
-use Rattle.refusals.specs.Answers.{accepted, refused}
+use Rattle.answers.specs.Answers.{accepted, refused}
 use Rattle.words.specs.Mpidrs.{writeMpidr32, aff3Number}
 use Rattle.words.specs.declared.mpidrs.Aff3.{Aff3}
 use Rattle.bits.proofs.Picks.{if-true, if-false}

@@ -3,7 +3,7 @@ use mathlib.Core.Path.{refl, ap, _∙_}
 use native.Mathlib.Nat.{div-one}
 use lib.Dec.{lit<}
 use borrow.Author.Needs.{needs}
-use Rattle.refusals.specs.Answers.{accepted}
+use Rattle.answers.specs.Answers.{accepted}
 use Rattle.words.specs.Mpidrs.{readMpidr32, fields32}
 use Rattle.bits.proofs.Masks.{none-outside, some-outside}
 use Rattle.bits.proofs.Picks.{if-true, if-false}

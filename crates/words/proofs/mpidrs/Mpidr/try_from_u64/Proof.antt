@@ -3,7 +3,7 @@ use mathlib.Core.Path.{refl, ap, _∙_}
 use native.Mathlib.Omega.{arith}
 use borrow.Author.Needs.{needs}
 use Rattle.bits.specs.Halves.{registerOf}
-use Rattle.refusals.specs.Answers.{accepted}
+use Rattle.answers.specs.Answers.{accepted}
 use Rattle.words.specs.Mpidrs.{readMpidr64, mpidr64}
 use Rattle.bits.proofs.Picks.{if-true, if-false}
 use Rattle.words.proofs.MpidrHalves.{mbz-halves, no-mbz-bit, mbz-bit}

@@ -7,7 +7,7 @@ use native.Mathlib.Omega.{arith}
 use lib.Bits.{bitAnd}
 use lib.Dec.{lit<, eqb}
 use borrow.Author.Needs.{needs}
-use Rattle.refusals.specs.Answers.{accepted}
+use Rattle.answers.specs.Answers.{accepted}
 use Rattle.bits.specs.Bits.{bits}
 use Rattle.words.specs.OriginalPowerStates.{readOriginalPowerState, originalPowerStateOf, originalPowerStateFields, stateIdField, powerDownField, levelField}
 use Rattle.words.specs.declared.original_power_states.OriginalPowerState.{OriginalPowerState}

@@ -7,7 +7,7 @@ use native.Mathlib.Omega.{arith}
 use lib.Bits.{bitAnd}
 use lib.Dec.{lit<, eqb}
 use borrow.Author.Tests.{eq-eqb, ne-eqb}
-use Rattle.refusals.specs.Answers.{accepted}
+use Rattle.answers.specs.Answers.{accepted}
 use Rattle.bits.specs.Bits.{_for_, bits}
 use Rattle.words.specs.PowerStates.{readPowerState, powerStateFields}
 use Rattle.words.specs.declared.power_states.PowerState.the-variants.{StandbyOrRetention, PowerDown}

@@ -2,7 +2,7 @@
 use mathlib.Core.Path.{_∙_, refl, sym, ap}
 use borrow.Author.Needs.{needs}
 use borrow.Author.Tests.{eq-eqb, ne-eqb}
-use Rattle.refusals.specs.Answers.{through}
+use Rattle.answers.specs.Answers.{through}
 use Rattle.function_ids.specs.FunctionIds.{functionIdAnswer}
 use Rattle.words.specs.declared.psci_features.PsciFeature.the-variants.{PsciFunction}
 use Rattle.bits.proofs.Picks.{if-true, if-false}

@@ -8,7 +8,7 @@ use lib.Dec.{lit<}
 use borrow.Author.Needs.{needs}
 use Rattle.bits.specs.Bits.{_for_, put}
 use Rattle.bits.proofs.Masks.{masked, outside}
-use Rattle.refusals.specs.Answers.{accepted}
+use Rattle.answers.specs.Answers.{accepted}
 use Rattle.words.specs.ResetTypes.{writeResetType, resetTypeFields}
 use Rattle.words.proofs.ResetTypeWords.{vendor-written, vendor-type-above}
 use Rattle.words.proofs.reset_types.ResetType.to_u32.Statement.{statement}

@@ -11,7 +11,7 @@ use borrow.Author.Tests.{eq-eqb, ne-eqb}
 use Rattle.bits.specs.Bits.{_for_, bits}
 use Rattle.bits.proofs.Masks.{masked}
 use Rattle.bits.proofs.Picks.{if-true, if-false}
-use Rattle.refusals.specs.Answers.{accepted, through}
+use Rattle.answers.specs.Answers.{accepted, through}
 use Rattle.words.specs.ResetTypes.{readResetType, architecturalAnswer}
 use Rattle.words.specs.declared.reset_types.ResetType.the-variants.{Architectural, VendorSpecific}
 use Rattle.words.proofs.reset_types.ResetType.try_from_u32.Statement.{statement}

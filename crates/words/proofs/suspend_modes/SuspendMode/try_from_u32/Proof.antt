@@ -1,7 +1,7 @@
 -- `SuspendMode::try_from_u32` meets its contract: each arm has the number of the mode that it gives, and the last arm none of them. Assumes nothing.
 use mathlib.Core.Path.{sym, ap}
 use Rattle.words.specs.SuspendModes.{suspendModeNumber, readSuspendMode, suspendModes}
-use Rattle.refusals.proofs.Choosing.{none-chosen}
+use Rattle.answers.proofs.Choosing.{none-chosen}
 use Rattle.words.proofs.suspend_modes.SuspendMode.try_from_u32.Statement.{statement}
 use Rattle.words.proofs.suspend_modes.SuspendMode.try_from_u32.Tie as tie
 

@@ -1,7 +1,7 @@
 -- `SystemOff2Type::try_from_u32` meets its contract: each arm has the number of the type that it gives, and the last arm none of them. Assumes nothing.
 use mathlib.Core.Path.{sym, ap}
 use Rattle.words.specs.SystemOff2Types.{systemOff2Number, readSystemOff2Type, systemOff2Types}
-use Rattle.refusals.proofs.Choosing.{none-chosen}
+use Rattle.answers.proofs.Choosing.{none-chosen}
 use Rattle.words.proofs.system_off2_types.SystemOff2Type.try_from_u32.Statement.{statement}
 use Rattle.words.proofs.system_off2_types.SystemOff2Type.try_from_u32.Tie as tie
 

@@ -7,7 +7,7 @@ use lib.Bits.{bitOr}
 use lib.Dec.{lit<}
 use borrow.Author.Needs.{needs}
 use borrow.Author.Tests.{le-leb, lt-leb}
-use Rattle.refusals.specs.Answers.{accepted}
+use Rattle.answers.specs.Answers.{accepted}
 use Rattle.bits.specs.Bits.{_for_, put}
 use Rattle.words.specs.Versions.{writeVersion, versionFields}
 use Rattle.bits.proofs.Masks.{outside, or-low}

@@ -4,7 +4,7 @@ use Prim.Native.Nat.{ℕ}
 use native.Mathlib.Omega.{arith}
 use lib.Dec.{lit<}
 use borrow.Author.Needs.{needs}
-use Rattle.refusals.specs.Answers.{accepted}
+use Rattle.answers.specs.Answers.{accepted}
 use Rattle.words.specs.Versions.{readVersion, versionFields, versionOf}
 use Rattle.bits.proofs.Masks.{outside, none-outside, some-outside}
 use Rattle.bits.proofs.Picks.{if-true, if-false}

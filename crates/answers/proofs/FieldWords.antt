@@ -10,9 +10,9 @@ use Rattle.bits.specs.Bits.{Field, get, put, cutTo, only}
 use Rattle.bits.proofs.Fields.{FitFields, put-get, put-only}
 use Rattle.bits.proofs.Masks.{rising}
 use Rattle.bits.proofs.Picks.{if-true}
-use Rattle.refusals.specs.Answers.{Answer, accepted, refused}
-use Rattle.refusals.specs.Inverses.{WritesBack, ReadsBack}
-use Rattle.refusals.proofs.Answering.{passed}
+use Rattle.answers.specs.Answers.{Answer, accepted, refused}
+use Rattle.answers.specs.Inverses.{WritesBack, ReadsBack}
+use Rattle.answers.proofs.Answering.{passed}
 
 module _ {A : Type 0} (fs : List Field) (make : List ℕ → A) (refusal : ℕ) where
   -- the reader: a word with no bit outside the fields is read as what the fields' values make

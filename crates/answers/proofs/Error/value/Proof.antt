@@ -6,8 +6,8 @@ use mir.Val.{SFits}
 use mir.Facts.{toZ-ofZ}
 use borrow.Author.Needs.{needs}
 use Rattle.bits.specs.Signs.{wordOf}
-use Rattle.refusals.proofs.Error.value.Statement.{statement}
-use Rattle.refusals.proofs.Error.value.Tie as tie
+use Rattle.answers.proofs.Error.value.Statement.{statement}
+use Rattle.answers.proofs.Error.value.Tie as tie
 
 pub value-spec : {M : Type 1} → statement M
 value-spec =

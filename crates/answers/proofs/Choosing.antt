@@ -7,10 +7,10 @@ use lib.Dec.{eqb}
 use lib.IntN.{ℤ, pos}
 use borrow.Author.Tests.{ne-eqb, eqb-true}
 use Rattle.bits.proofs.Picks.{both-true}
-use Rattle.refusals.specs.Answers.{Answer, accepted, refused, choose}
-use Rattle.refusals.specs.Inverses.{WritesBack, ReadsBack, always}
-use Rattle.refusals.proofs.Answering.{not-accepted, same-accepted}
-use Rattle.refusals.proofs.Inverting.{writes-always, reads-always}
+use Rattle.answers.specs.Answers.{Answer, accepted, refused, choose}
+use Rattle.answers.specs.Inverses.{WritesBack, ReadsBack, always}
+use Rattle.answers.proofs.Answering.{not-accepted, same-accepted}
+use Rattle.answers.proofs.Inverting.{writes-always, reads-always}
 
 module _ {A : Type 0} (number : A → ℕ) (otherwise : Answer A) where
   -- none of the list has the key for its number: the form in which the `_` arm of a `match` has it, after what R says.

@@ -1,8 +1,8 @@
 // What an exported function tells C of an answer: two words, which come back in registers on x86-64 and on AArch64.
 ghost use mathlib.Core.Path.{_≡_};
 ghost use lib.IntN.{pos};
-ghost use Rattle.refusals.specs.Errors.{refusalNumber, refusalValue};
-ghost use Rattle.refusals.specs.Told.{refusalIs};
+ghost use Rattle.answers.specs.Errors.{refusalNumber, refusalValue};
+ghost use Rattle.answers.specs.Told.{refusalIs};
 use crate::Error;
 
 // A refusal's number and what it carries, or twice 0.

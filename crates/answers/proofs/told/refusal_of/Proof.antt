@@ -1,8 +1,8 @@
--- `refusals::told::refusal_of` meets its contract.
+-- `answers::told::refusal_of` meets its contract.
 -- Assumes nothing.
 use borrow.Author.Needs.{needs}
-use Rattle.refusals.proofs.told.refusal_of.Statement.{statement}
-use Rattle.refusals.proofs.told.refusal_of.Tie as tie
+use Rattle.answers.proofs.told.refusal_of.Statement.{statement}
+use Rattle.answers.proofs.told.refusal_of.Tie as tie
 
 pub refusal-of-spec : {M : Type 1} → statement M
 refusal-of-spec =

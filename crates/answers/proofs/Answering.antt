@@ -4,7 +4,7 @@ use mathlib.Core.Bool.{Bool, true, false, cond}
 use Prim.Native.Nat.{ℕ}
 use native.Mathlib.Omega.{arith}
 use lib.IntN.{ℤ}
-use Rattle.refusals.specs.Answers.{Answer, accepted, refused, through, andThen}
+use Rattle.answers.specs.Answers.{Answer, accepted, refused, through, andThen}
 
 -- a refusal is no acceptance
 pub not-accepted : {A B : Type 0} {number : ℕ} {value : ℤ} {a : A} → _≡_ {A = Answer A} (refused number value) (accepted a) → B

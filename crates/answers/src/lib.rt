@@ -2,7 +2,7 @@
 // that of a request in document 02.
 ghost use mathlib.Core.Path.{_≡_};
 ghost use Rattle.bits.specs.Signs.{wordOf};
-ghost use Rattle.refusals.specs.Errors.{refusalNumber, refusalValue};
+ghost use Rattle.answers.specs.Errors.{refusalNumber, refusalValue};
 
 pub mod told;
 

@@ -1,8 +1,8 @@
 -- A writer that never refuses: what it takes to invert a reader, either way. A writer whose words read back keeps values apart. Assumes nothing.
 use mathlib.Core.Path.{_≡_, sym, ap, _∙_}
-use Rattle.refusals.specs.Answers.{Answer, accepted}
-use Rattle.refusals.specs.Inverses.{WritesBack, ReadsBack, Apart, always, Any}
-use Rattle.refusals.proofs.Answering.{same-accepted}
+use Rattle.answers.specs.Answers.{Answer, accepted}
+use Rattle.answers.specs.Inverses.{WritesBack, ReadsBack, Apart, always, Any}
+use Rattle.answers.proofs.Answering.{same-accepted}
 
 module _ {A W : Type 0} (read : W → Answer A) (write : A → W) where
   pub writes-always : (Word : W → Type 0) → ((w : W) (a : A) → Word w → read w ≡ accepted a → write a ≡ w) → WritesBack Word read (always write)

@@ -3,8 +3,8 @@
 use Prim.Native.Nat.{ℕ}
 use lib.IntN.{ℤ, pos}
 use Rattle.bits.specs.Signs.{wordOf}
-use Rattle.refusals.specs.Answers.{Answer, accepted, refused}
-use Rattle.refusals.specs.declared.told.Refusal.{Refusal}
+use Rattle.answers.specs.Answers.{Answer, accepted, refused}
+use Rattle.answers.specs.declared.told.Refusal.{Refusal}
 
 abbrev pub refusalIs : ℕ → ℤ → Refusal
 refusalIs number value = record { number = number; carried = wordOf 64 value }

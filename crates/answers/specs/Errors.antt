@@ -2,11 +2,11 @@
 -- document 02's Change 1, 31 is its Change 5.
 use Prim.Native.Nat.{ℕ}
 use lib.IntN.{ℤ, pos}
-use Rattle.refusals.specs.Answers.{Answer, accepted, refused}
-use Rattle.refusals.specs.declared.Error.{Error}
-use Rattle.refusals.specs.declared.Error.the-variants.{UnrecognisedFunctionId, InvalidPowerState, InvalidMpidr32, InvalidMpidr64, InvalidLowerAffinityLevel, UnrecognisedSystemOff2Type, UnrecognisedSystemReset2Type, UnrecognisedSuspendMode, UnrecognisedErrorCode, OverflowingErrorCode, InvalidVersion, UnrecognisedHwState, IgnoredNonZeroAff3, MixedCallForms, InvalidStateId, InvalidMajorVersion, WrongLength, InvalidOriginalPowerState, InvalidPowerLevel, InvalidVendorType}
-use Rattle.refusals.specs.declared.WordResult.{WordResult}
-use Rattle.refusals.specs.declared.WordResult.the-variants.{Ok, Err}
+use Rattle.answers.specs.Answers.{Answer, accepted, refused}
+use Rattle.answers.specs.declared.Error.{Error}
+use Rattle.answers.specs.declared.Error.the-variants.{UnrecognisedFunctionId, InvalidPowerState, InvalidMpidr32, InvalidMpidr64, InvalidLowerAffinityLevel, UnrecognisedSystemOff2Type, UnrecognisedSystemReset2Type, UnrecognisedSuspendMode, UnrecognisedErrorCode, OverflowingErrorCode, InvalidVersion, UnrecognisedHwState, IgnoredNonZeroAff3, MixedCallForms, InvalidStateId, InvalidMajorVersion, WrongLength, InvalidOriginalPowerState, InvalidPowerLevel, InvalidVendorType}
+use Rattle.answers.specs.declared.WordResult.{WordResult}
+use Rattle.answers.specs.declared.WordResult.the-variants.{Ok, Err}
 
 abbrev pub refusalNumber : Error → ℕ
 refusalNumber (UnrecognisedFunctionId number) = 1

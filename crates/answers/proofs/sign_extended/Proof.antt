@@ -1,4 +1,4 @@
--- `refusals::sign_extended` meets its contract: what fits 32 bits fits 64.
+-- `answers::sign_extended` meets its contract: what fits 32 bits fits 64.
 -- Assumes nothing.
 use mathlib.Core.Path.{ap, _∙_, sym, subst}
 use mir.Syntax.{w32, w64}
@@ -6,8 +6,8 @@ use mir.Val.{SFits}
 use mir.Facts.{toZ-ofZ, sfits-widen}
 use borrow.Author.Needs.{needs}
 use Rattle.bits.specs.Signs.{wordOf}
-use Rattle.refusals.proofs.sign_extended.Statement.{statement}
-use Rattle.refusals.proofs.sign_extended.Tie as tie
+use Rattle.answers.proofs.sign_extended.Statement.{statement}
+use Rattle.answers.proofs.sign_extended.Tie as tie
 
 cast-word-64 : tie.Need-cast-word-64
 cast-word-64 c =
