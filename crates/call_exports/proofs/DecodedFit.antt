@@ -14,7 +14,7 @@ use Rattle.function_ids.specs.FunctionIds.{Form, narrow, wide, functionNumber}
 use Rattle.function_ids.specs.declared.FunctionId.{FunctionId}
 use Rattle.function_ids.specs.declared.FunctionId.the-variants as id
 use Rattle.function_ids.proofs.FunctionIdLaws.{every-function}
-use Rattle.function_ids.specs.CallTable.{Part, lowHalf, whole, ruleOf, lookBy, valueIn}
+use Rattle.function_ids.specs.CallTable.{Part, lowHalf, whole, ruleOf, lookOfNumber, valueIn}
 use Rattle.words.specs.Flags.{flagWord}
 use Rattle.words.specs.Mpidrs.{mpidr32, mpidr64, fields32, fields64, readMpidr32, readMpidr64}
 use Rattle.words.specs.PowerStates.{powerStateFields, stateIdField, powerDownField, readPowerState}
@@ -38,7 +38,7 @@ use Rattle.function.specs.declared.Function.the-variants.{AffinityInfo}
 use Rattle.decode_definition.specs.RefusalOrders.{affinityInfo, ofCoreState}
 use Rattle.decode_definition.specs.Decode.{callOf, decodeBy, decodeOf, decodeSmccc}
 use Rattle.roundtrip.specs.Codec.{Registers}
-use Rattle.roundtrip.proofs.Psci.{by-rows}
+use Rattle.roundtrip.proofs.TwoCodecs.{by-rows}
 use Rattle.roundtrip.proofs.Rows.{FitsLook, mpidrAt}
 use Rattle.call_exports.specs.Parts.{_within_, Fit, mpidrParts, powerStateParts, entryParts, cookieParts, resetTypeParts, featureParts}
 use Rattle.call_exports.specs.CallWords.{callParts}
@@ -112,7 +112,7 @@ core-state-fits call form word state f = met (mpidrAt form word) (mpidr-fits for
 
 -- whichever part of r1 memory protect looks at
 fit-row : (protect : Part) (f : FunctionId) (a b c : ℕ) →
-    FitsLook (lookBy protect (functionNumber f) 1) a → FitsLook (lookBy protect (functionNumber f) 2) b → FitsLook (lookBy protect (functionNumber f) 3) c →
+    FitsLook (lookOfNumber protect (functionNumber f) 1) a → FitsLook (lookOfNumber protect (functionNumber f) 2) b → FitsLook (lookOfNumber protect (functionNumber f) 3) c →
     FitAnswer (callOf f (valueIn (ruleOf (functionNumber f) .fields) (functionNumber f ∷ a ∷ b ∷ c ∷ [])))
 unfolding ruleOf
 fit-row protect id.PsciVersion a b c p q s = (lit< tt, tt)

@@ -6,10 +6,10 @@ use lib.ListN.{length}
 use Rattle.answers.specs.Answers.{Answer, accepted, refused, through, andThen}
 use Rattle.answers.proofs.Answering.{same-accepted}
 use Rattle.roundtrip.specs.Codec.{Codec, Registers, wordsIn, Demand3}
-use Rattle.roundtrip.specs.Psci.{psci}
+use Rattle.roundtrip.specs.Document01.{document01}
 use Rattle.roundtrip.specs.Recode.{recodeBy}
 use Rattle.roundtrip.specs.Smccc.{smccc}
-use Rattle.roundtrip.proofs.Psci.{demand3-of-01, demand3-of-smccc}
+use Rattle.roundtrip.proofs.TwoCodecs.{demand3-of-01, demand3-of-smccc}
 use Rattle.call_exports.specs.Exports.{encodeAsked}
 use Rattle.call_exports.specs.NineWords.{Worded, NineWords, worded, NineWordsOf01, NineWordsOfSmccc}
 use Rattle.call_exports.specs.Parts.{Fit}
@@ -45,7 +45,7 @@ module _ (c : Codec) (w : Worded (c .Call)) (d3 : Demand3 c)
   nine-words = record { own = own; apart = apart; only = only; fit = fit; taken = taken; recoded = recoded }
 
 pub nine-words-of-01 : NineWordsOf01
-nine-words-of-01 = nine-words psci worded demand3-of-01 own-call only-call fit-of-01
+nine-words-of-01 = nine-words document01 worded demand3-of-01 own-call only-call fit-of-01
 
 pub nine-words-of-smccc : NineWordsOfSmccc
 nine-words-of-smccc = nine-words smccc worded demand3-of-smccc own-call only-call fit-of-smccc

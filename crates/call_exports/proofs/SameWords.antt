@@ -11,7 +11,7 @@ use borrow.Author.Tests.{eqb-true, eq-eqb}
 use Rattle.bits.proofs.HalfLaws.{or-none}
 use Rattle.bits.proofs.Picks.{both-true}
 use Rattle.bits.proofs.Xor.{xor-none}
-use Rattle.answers.proofs.Lending.{placed-front, fronted-all, stored-all}
+use Rattle.answers.proofs.Lending.{put-front, fronted-all, stored-all}
 use Rattle.call_exports.specs.PlainWords.{same}
 use Rattle.call_exports.specs.Parts.{nine}
 
@@ -51,7 +51,7 @@ differing c d =
 
 -- a run that is all of nine words is those
 nine-own : (c : List ℕ) → length c ≡ 9 → c ≡ nine c
-nine-own c l = sym (sym (placed-front (nine c) c (omega (arith, l)) ∙ fronted-all (nine c) c (sym l)) ∙ stored-all 9 c c l l)
+nine-own c l = sym (sym (put-front (nine c) c (omega (arith, l)) ∙ fronted-all (nine c) c (sym l)) ∙ stored-all 9 c c l l)
 
 pub none-differ : (c d : List ℕ) → length c ≡ 9 → length d ≡ 9 → differing c d ≡ 0 → c ≡ d
 none-differ c d l m z =

@@ -7,7 +7,7 @@ use lib.ListN.{length}
 use Rattle.answers.specs.Answers.{Answer, accepted, through, andThen}
 use Rattle.function.specs.declared.Function.{Function}
 use Rattle.roundtrip.specs.Codec.{Codec, Registers, wordsIn}
-use Rattle.roundtrip.specs.Psci.{psci}
+use Rattle.roundtrip.specs.Document01.{document01}
 use Rattle.roundtrip.specs.Recode.{recodeBy}
 use Rattle.roundtrip.specs.Smccc.{smccc}
 use Rattle.call_exports.specs.CallAsked.{callAsked}
@@ -43,7 +43,7 @@ abbrev pub worded : Worded Function
 worded = record { parts = callParts; words = callWords; asked = callAsked }
 
 abbrev pub NineWordsOf01 : Type 0
-NineWordsOf01 = NineWords psci worded
+NineWordsOf01 = NineWords document01 worded
 
 abbrev pub NineWordsOfSmccc : Type 0
 NineWordsOfSmccc = NineWords smccc worded

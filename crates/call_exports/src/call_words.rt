@@ -16,10 +16,7 @@ use crate::parts::vendor_type;
 use crate::parts::wide32;
 use crate::places::mode_place;
 use function::Function;
-use words::base_word;
-use words::cookie_word;
 use words::flag_word;
-use words::length_word;
 
 // The words of a call: its tag, the parts of its fields in their order, then zeros. Every call has them.
 pub fn call_words(function: Function) -> [u64; 9]
@@ -57,14 +54,14 @@ pub fn call_words(function: Function) -> [u64; 9]
         Function::SystemOff2 {
             off_type: _,
             cookie,
-        } => three(9, 0, cookie_form(cookie), cookie_word(cookie)),
+        } => three(9, 0, cookie_form(cookie), cookie.to_u64()),
         Function::SystemReset => three(10, 0, 0, 0),
         Function::SystemReset2 { reset_type, cookie } => [
             11,
             vendor(reset_type),
             vendor_type(reset_type),
             cookie_form(cookie),
-            cookie_word(cookie),
+            cookie.to_u64(),
             0,
             0,
             0,
@@ -74,8 +71,8 @@ pub fn call_words(function: Function) -> [u64; 9]
         Function::MemProtectCheckRange { range } => three(
             13,
             range_form(range),
-            base_word(range),
-            length_word(range),
+            range.base_word(),
+            range.length_word(),
         ),
         Function::Features { psci_func_id } => three(
             14,

@@ -19,15 +19,15 @@ pub mod parts;
 pub mod places;
 pub mod plain_words;
 
+use answers::told::Refusal;
+use answers::told::accepted_words;
+use answers::told::refusal_of;
 use crate::call_asked::Asked;
 use crate::call_asked::call_asked;
 use crate::call_words::call_words;
 use decode::registers::low_half_for_protect;
 use encode::EncodeResult;
 use function::FunctionResult;
-use answers::told::Refusal;
-use answers::told::accepted_words;
-use answers::told::refusal_of;
 
 // Nine words into a lent run of nine; any other run is left as it was. It is lent as a slice: the checker tells the length of a slice, and not that
 // of `&mut [u64; 9]`.

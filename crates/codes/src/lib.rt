@@ -2,8 +2,8 @@
 ghost use mathlib.Core.Path.{_≡_};
 ghost use Rattle.codes.specs.Codes.{codeOfRefusal, errorCodeOf, codeNumber, errorCodeAnswer, readErrorCode, readErrorCode64, returnNumber, returnCodeAnswer, readReturnCode};
 ghost use Rattle.bits.specs.Signs.{signed, wordOf};
-use bits::signs;
 use answers::Error;
+use bits::signs;
 
 // DEN0022 5.2.2.
 pub enum ErrorCode {

@@ -1,19 +1,23 @@
-// A call from its field as it was read: a refused field is the answer.
+// A call from its fields as they were read: a refused field is the answer, and of two the one that RefusalOrders.antt puts first.
 ghost use mathlib.Core.Path.{_≡_};
 ghost use mathlib.Core.Bool.{not};
 ghost use lib.Dec.{eqb};
 ghost use Rattle.answers.specs.Answers.{accepted, through};
+ghost use Rattle.words.specs.Mpidrs.{mpidrAnswer};
 ghost use Rattle.words.specs.PowerStates.{powerStateAnswer};
 ghost use Rattle.words.specs.ResetTypes.{resetTypeAnswer};
 ghost use Rattle.words.specs.PsciFeatures.{featureAnswer};
 ghost use Rattle.words.specs.SuspendModes.{suspendModeAnswer};
 ghost use Rattle.words.specs.SystemOff2Types.{systemOff2Answer};
 ghost use Rattle.function.specs.Functions.{functionAnswer};
-ghost use Rattle.function.specs.declared.Function.the-variants.{CpuSuspend, SystemOff2, SystemReset2, MemProtect, Features, SetSuspendMode};
+ghost use Rattle.function.specs.declared.Function.the-variants.{CpuSuspend, CpuOn, Migrate, SystemOff2, SystemReset2, MemProtect, Features, NodeHwState, SetSuspendMode, StatResidency, StatCount};
+ghost use Rattle.decode_definition.specs.RefusalOrders.{affinityInfo, ofCoreState};
+use answers::Error;
 use function::Function;
 use function::FunctionResult;
 use words::Cookie;
 use words::EntryPoint;
+use words::MpidrResult;
 use words::PowerState;
 use words::PowerStateResult;
 use words::PsciFeatureResult;
@@ -47,6 +51,71 @@ pub fn cpu_suspend(state: PowerStateResult, entry: EntryPoint) -> FunctionResult
         PowerStateResult::Ok(state) => FunctionResult::Ok(suspend(state, entry)),
         PowerStateResult::Err(error) => FunctionResult::Err(error),
     }
+}
+
+// CPU on, or the refusal of its MPIDR.
+pub fn cpu_on(mpidr: MpidrResult, entry: EntryPoint) -> FunctionResult
+    ensures { λ r. ⌜ functionAnswer r ≡ through (λ m. CpuOn m entry) (mpidrAnswer mpidr) ⌝ }
+{
+    match mpidr {
+        MpidrResult::Ok(target_cpu) => FunctionResult::Ok(Function::CpuOn { target_cpu, entry }),
+        MpidrResult::Err(error) => FunctionResult::Err(error),
+    }
+}
+
+// Migrate, or the refusal of its MPIDR.
+pub fn migrate(mpidr: MpidrResult) -> FunctionResult
+    ensures { λ r. ⌜ functionAnswer r ≡ through Migrate (mpidrAnswer mpidr) ⌝ }
+{
+    match mpidr {
+        MpidrResult::Ok(target_affinity) => FunctionResult::Ok(Function::Migrate {
+            target_affinity,
+        }),
+        MpidrResult::Err(error) => FunctionResult::Err(error),
+    }
+}
+
+// Node hardware state of any level, or the refusal of its MPIDR.
+pub fn node_hw_state(mpidr: MpidrResult, power_level: u32) -> FunctionResult
+    ensures { λ r. ⌜ functionAnswer r ≡ through (λ m. NodeHwState m «power_level») (mpidrAnswer mpidr) ⌝ }
+{
+    match mpidr {
+        MpidrResult::Ok(target_cpu) => FunctionResult::Ok(Function::NodeHwState {
+            target_cpu,
+            power_level,
+        }),
+        MpidrResult::Err(error) => FunctionResult::Err(error),
+    }
+}
+
+// The level is checked before the MPIDR.
+fn affinity_info(most: u32, lowest_affinity_level: u32, mpidr: MpidrResult) -> FunctionResult
+    ensures { λ r. ⌜ functionAnswer r ≡ affinityInfo most «lowest_affinity_level» (mpidrAnswer mpidr) ⌝ }
+{
+    if lowest_affinity_level > most {
+        return FunctionResult::Err(Error::InvalidLowerAffinityLevel(lowest_affinity_level));
+    }
+    match mpidr {
+        MpidrResult::Ok(mpidr) => FunctionResult::Ok(Function::AffinityInfo {
+            mpidr,
+            lowest_affinity_level,
+        }),
+        MpidrResult::Err(error) => FunctionResult::Err(error),
+    }
+}
+
+// Levels up to 2: affinity 3 is absent in the 32-bit form.
+pub fn affinity_info_32(lowest_affinity_level: u32, mpidr: MpidrResult) -> FunctionResult
+    ensures { λ r. ⌜ functionAnswer r ≡ affinityInfo 2 «lowest_affinity_level» (mpidrAnswer mpidr) ⌝ }
+{
+    affinity_info(2, lowest_affinity_level, mpidr)
+}
+
+// Levels up to 3.
+pub fn affinity_info_64(lowest_affinity_level: u32, mpidr: MpidrResult) -> FunctionResult
+    ensures { λ r. ⌜ functionAnswer r ≡ affinityInfo 3 «lowest_affinity_level» (mpidrAnswer mpidr) ⌝ }
+{
+    affinity_info(3, lowest_affinity_level, mpidr)
 }
 
 // Features, or the refusal of the feature asked about.
@@ -118,5 +187,37 @@ pub fn system_off2(off_type: SystemOff2TypeResult, cookie: Cookie) -> FunctionRe
             cookie,
         }),
         SystemOff2TypeResult::Err(error) => FunctionResult::Err(error),
+    }
+}
+
+// Residency, or the refusal of its MPIDR, or else of its power state.
+pub fn stat_residency(mpidr: MpidrResult, state: PowerStateResult) -> FunctionResult
+    ensures { λ r. ⌜ functionAnswer r ≡ ofCoreState StatResidency (mpidrAnswer mpidr) (powerStateAnswer state) ⌝ }
+{
+    match mpidr {
+        MpidrResult::Ok(target_cpu) => match state {
+            PowerStateResult::Ok(power_state) => FunctionResult::Ok(Function::StatResidency {
+                target_cpu,
+                power_state,
+            }),
+            PowerStateResult::Err(error) => FunctionResult::Err(error),
+        },
+        MpidrResult::Err(error) => FunctionResult::Err(error),
+    }
+}
+
+// Count, or the refusal of its MPIDR, or else of its power state.
+pub fn stat_count(mpidr: MpidrResult, state: PowerStateResult) -> FunctionResult
+    ensures { λ r. ⌜ functionAnswer r ≡ ofCoreState StatCount (mpidrAnswer mpidr) (powerStateAnswer state) ⌝ }
+{
+    match mpidr {
+        MpidrResult::Ok(target_cpu) => match state {
+            PowerStateResult::Ok(power_state) => FunctionResult::Ok(Function::StatCount {
+                target_cpu,
+                power_state,
+            }),
+            PowerStateResult::Err(error) => FunctionResult::Err(error),
+        },
+        MpidrResult::Err(error) => FunctionResult::Err(error),
     }
 }

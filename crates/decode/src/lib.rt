@@ -3,19 +3,17 @@ ghost use mathlib.Core.Path.{_≡_};
 ghost use Rattle.function.specs.Functions.{functionAnswer};
 ghost use Rattle.decode_definition.specs.Decode.{decodeOf, decodeSmccc};
 
-pub mod affinity_calls;
 pub mod calls;
-pub mod core_calls;
 pub mod registers;
-pub mod stat_calls;
 
+use answers::Error;
 use crate::registers::low_half_for_protect;
 use crate::registers::number_in;
 use function::Function;
 use function::FunctionResult;
 use function_ids::FunctionId;
-use answers::Error;
 use words::Cookie;
+use words::EntryPoint;
 use words::MemProtectRange;
 use words::Mpidr;
 use words::PowerState;
@@ -42,31 +40,31 @@ pub fn decode(regs: [u64; 4]) -> FunctionResult
         FunctionId::PSCI_VERSION => return FunctionResult::Ok(Function::Version),
         FunctionId::CPU_SUSPEND_32 => return calls::cpu_suspend(
             PowerState::try_from_u32(low1),
-            words::entry32(low2, low3),
+            EntryPoint::entry32(low2, low3),
         ),
         FunctionId::CPU_SUSPEND_64 => return calls::cpu_suspend(
             PowerState::try_from_u32(low1),
-            words::entry64(r2, r3),
+            EntryPoint::entry64(r2, r3),
         ),
         FunctionId::CPU_OFF => return FunctionResult::Ok(Function::CpuOff),
-        FunctionId::CPU_ON_32 => return core_calls::cpu_on(
+        FunctionId::CPU_ON_32 => return calls::cpu_on(
             Mpidr::try_from_u32(low1),
-            words::entry32(low2, low3),
+            EntryPoint::entry32(low2, low3),
         ),
-        FunctionId::CPU_ON_64 => return core_calls::cpu_on(
+        FunctionId::CPU_ON_64 => return calls::cpu_on(
             Mpidr::try_from_u64(r1),
-            words::entry64(r2, r3),
+            EntryPoint::entry64(r2, r3),
         ),
-        FunctionId::AFFINITY_INFO_32 => return affinity_calls::affinity_info_32(
+        FunctionId::AFFINITY_INFO_32 => return calls::affinity_info_32(
             low2,
             Mpidr::try_from_u32(low1),
         ),
-        FunctionId::AFFINITY_INFO_64 => return affinity_calls::affinity_info_64(
+        FunctionId::AFFINITY_INFO_64 => return calls::affinity_info_64(
             low2,
             Mpidr::try_from_u64(r1),
         ),
-        FunctionId::MIGRATE_32 => return core_calls::migrate(Mpidr::try_from_u32(low1)),
-        FunctionId::MIGRATE_64 => return core_calls::migrate(Mpidr::try_from_u64(r1)),
+        FunctionId::MIGRATE_32 => return calls::migrate(Mpidr::try_from_u32(low1)),
+        FunctionId::MIGRATE_64 => return calls::migrate(Mpidr::try_from_u64(r1)),
         FunctionId::MIGRATE_INFO_TYPE => return FunctionResult::Ok(Function::MigrateInfoType),
         FunctionId::MIGRATE_INFO_UP_CPU_32 => return FunctionResult::Ok(Function::MigrateInfoUpCpu {
             is_32bit: true,
@@ -80,41 +78,41 @@ pub fn decode(regs: [u64; 4]) -> FunctionResult
         FunctionId::CPU_FREEZE => return FunctionResult::Ok(Function::CpuFreeze),
         FunctionId::CPU_DEFAULT_SUSPEND_32 =>
             return FunctionResult::Ok(Function::CpuDefaultSuspend {
-                entry: words::entry32(low1, low2),
+                entry: EntryPoint::entry32(low1, low2),
             }),
         FunctionId::CPU_DEFAULT_SUSPEND_64 =>
             return FunctionResult::Ok(Function::CpuDefaultSuspend {
-                entry: words::entry64(r1, r2),
+                entry: EntryPoint::entry64(r1, r2),
             }),
-        FunctionId::NODE_HW_STATE_32 => return core_calls::node_hw_state(
+        FunctionId::NODE_HW_STATE_32 => return calls::node_hw_state(
             Mpidr::try_from_u32(low1),
             low2,
         ),
-        FunctionId::NODE_HW_STATE_64 => return core_calls::node_hw_state(
+        FunctionId::NODE_HW_STATE_64 => return calls::node_hw_state(
             Mpidr::try_from_u64(r1),
             low2,
         ),
         FunctionId::SYSTEM_SUSPEND_32 => return FunctionResult::Ok(Function::SystemSuspend {
-            entry: words::entry32(low1, low2),
+            entry: EntryPoint::entry32(low1, low2),
         }),
         FunctionId::SYSTEM_SUSPEND_64 => return FunctionResult::Ok(Function::SystemSuspend {
-            entry: words::entry64(r1, r2),
+            entry: EntryPoint::entry64(r1, r2),
         }),
         FunctionId::PSCI_SET_SUSPEND_MODE =>
             return calls::set_suspend_mode(SuspendMode::try_from_u32(low1)),
-        FunctionId::PSCI_STAT_RESIDENCY_32 => return stat_calls::stat_residency(
+        FunctionId::PSCI_STAT_RESIDENCY_32 => return calls::stat_residency(
             Mpidr::try_from_u32(low1),
             PowerState::try_from_u32(low2),
         ),
-        FunctionId::PSCI_STAT_RESIDENCY_64 => return stat_calls::stat_residency(
+        FunctionId::PSCI_STAT_RESIDENCY_64 => return calls::stat_residency(
             Mpidr::try_from_u64(r1),
             PowerState::try_from_u32(low2),
         ),
-        FunctionId::PSCI_STAT_COUNT_32 => return stat_calls::stat_count(
+        FunctionId::PSCI_STAT_COUNT_32 => return calls::stat_count(
             Mpidr::try_from_u32(low1),
             PowerState::try_from_u32(low2),
         ),
-        FunctionId::PSCI_STAT_COUNT_64 => return stat_calls::stat_count(
+        FunctionId::PSCI_STAT_COUNT_64 => return calls::stat_count(
             Mpidr::try_from_u64(r1),
             PowerState::try_from_u32(low2),
         ),

@@ -12,7 +12,7 @@ use Rattle.answers.proofs.Choosing.{NoneOf, none-chosen}
 use Rattle.function_ids.specs.FunctionIds.{functionNumber, functions, readFunctionId}
 use Rattle.function_ids.proofs.FunctionIdLaws.{function-back}
 use Rattle.function_ids.specs.declared.FunctionId.{FunctionId}
-use Rattle.function_ids.specs.CallTable.{ruleOf, kept, valueIn, numberIn}
+use Rattle.function_ids.specs.CallTable.{ruleOf, kept01, valueIn, numberIn}
 use Rattle.function.specs.declared.Function.{Function}
 use Rattle.decode_definition.specs.Decode.{callOf, callIn, decodeBy, decodeOf}
 
@@ -23,7 +23,7 @@ zero-kept false = refl
 
 -- the call of a known function by its three argument registers
 unfoldable pub knownOf : FunctionId → ℕ → ℕ → ℕ → Answer Function
-knownOf id r1 r2 r3 = callOf id (valueIn (ruleOf (functionNumber id) .fields) (kept (functionNumber id ∷ r1 ∷ r2 ∷ r3 ∷ [])))
+knownOf id r1 r2 r3 = callOf id (valueIn (ruleOf (functionNumber id) .fields) (kept01 (functionNumber id ∷ r1 ∷ r2 ∷ r3 ∷ [])))
 
 -- a set that has a function's number is decoded as that function's registers
 pub known-is : (id : FunctionId) (regs : List ℕ) → numberIn regs ≡ functionNumber id →

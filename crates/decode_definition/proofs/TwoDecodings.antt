@@ -9,19 +9,19 @@ use borrow.Author.Tests.{eqb-true, eqb-false}
 use Rattle.bits.proofs.Picks.{choice}
 use Rattle.function_ids.specs.FunctionIds.{narrow, functionNumber}
 use Rattle.function_ids.specs.declared.FunctionId.the-variants.{MemProtect}
-use Rattle.function_ids.specs.CallTable.{Kind, powerState, entry, context, mpidr, level, feature, mode, resetType, offType, cookie, rangeBase, rangeLength, memoryProtect, Listed, lowHalf, partOf, whole, Look, bitsOf, ruleOf, lookIn, lookBy, keep, numberIn, keptBy, kept}
+use Rattle.function_ids.specs.CallTable.{Kind, powerState, entry, context, mpidr, level, feature, mode, resetType, offType, cookie, rangeBase, rangeLength, memoryProtect, Listed, lowHalf, partOf, whole, Look, bitsOf, ruleOf, lookOfFields, lookOfNumber, keep, numberIn, keptSet, kept01}
 use Rattle.function_ids.proofs.CallTableLaws.{protect-alone}
 use Rattle.decode_definition.specs.Decode.{callIn, decodeBy, decodeOf, decodeSmccc}
 use Rattle.decode_definition.specs.TwoDecodings.{withLowR1, lowHalfForProtect, TwoDecodings}
 
 -- what is kept decides
-alike : (regs others : List ℕ) → keptBy (lookBy lowHalf) regs ≡ kept others → decodeSmccc regs ≡ decodeOf others
+alike : (regs others : List ℕ) → keptSet (lookOfNumber lowHalf) regs ≡ kept01 others → decodeSmccc regs ≡ decodeOf others
 unfolding decodeSmccc decodeOf decodeBy
 alike regs others e = ap callIn e
 
 elsewhere : (regs : List ℕ) → (numberIn regs ≡ functionNumber MemProtect → ⊥) → decodeSmccc regs ≡ decodeOf regs
 elsewhere regs other =
-    let at : (i : ℕ) → lookBy lowHalf (numberIn regs) i ≡ lookBy whole (numberIn regs) i = λ i. protect-alone lowHalf (numberIn regs) i other in
+    let at : (i : ℕ) → lookOfNumber lowHalf (numberIn regs) i ≡ lookOfNumber whole (numberIn regs) i = λ i. protect-alone lowHalf (numberIn regs) i other in
     alike regs regs (simp (at 1, at 2, at 3))
 
 -- ---- memory protect
@@ -38,12 +38,12 @@ second-low (a ∷ b ∷ rest) = refl
 
 -- of memory protect's number, whatever r2 and r3 hold
 protect-kept : (n x y z u v : ℕ) → functionNumber MemProtect ≡ n →
-    n ∷ keep (lookBy lowHalf n 1) x ∷ keep (lookBy lowHalf n 2) y ∷ keep (lookBy lowHalf n 3) z ∷ [] ≡
-    n ∷ keep (lookBy whole n 1) (partOf lowHalf x) ∷ keep (lookBy whole n 2) u ∷ keep (lookBy whole n 3) v ∷ []
+    n ∷ keep (lookOfNumber lowHalf n 1) x ∷ keep (lookOfNumber lowHalf n 2) y ∷ keep (lookOfNumber lowHalf n 3) z ∷ [] ≡
+    n ∷ keep (lookOfNumber whole n 1) (partOf lowHalf x) ∷ keep (lookOfNumber whole n 2) u ∷ keep (lookOfNumber whole n 3) v ∷ []
 unfolding ruleOf
 protect-kept n x y z u v e =
-    subst (λ (m : ℕ). m ∷ keep (lookBy lowHalf m 1) x ∷ keep (lookBy lowHalf m 2) y ∷ keep (lookBy lowHalf m 3) z ∷ [] ≡
-    m ∷ keep (lookBy whole m 1) (partOf lowHalf x) ∷ keep (lookBy whole m 2) u ∷ keep (lookBy whole m 3) v ∷ []) e refl
+    subst (λ (m : ℕ). m ∷ keep (lookOfNumber lowHalf m 1) x ∷ keep (lookOfNumber lowHalf m 2) y ∷ keep (lookOfNumber lowHalf m 3) z ∷ [] ≡
+    m ∷ keep (lookOfNumber whole m 1) (partOf lowHalf x) ∷ keep (lookOfNumber whole m 2) u ∷ keep (lookOfNumber whole m 3) v ∷ []) e refl
 
 of-protect : (regs : List ℕ) → numberIn regs ≡ functionNumber MemProtect → decodeSmccc regs ≡ decodeOf (withLowR1 regs)
 of-protect regs e =
@@ -85,7 +85,7 @@ kind-low rangeBase x = mod-mod x (2 ^ 32)
 kind-low rangeLength x = mod-mod x (2 ^ 32)
 kind-low memoryProtect x = simp mod-mod
 
-fields-low : (fields : List Listed) (register x : ℕ) → keep (lookIn lowHalf narrow fields register) (partOf lowHalf x) ≡ keep (lookIn lowHalf narrow fields register) x
+fields-low : (fields : List Listed) (register x : ℕ) → keep (lookOfFields lowHalf narrow fields register) (partOf lowHalf x) ≡ keep (lookOfFields lowHalf narrow fields register) x
 fields-low [] register x = refl
 fields-low (f ∷ fs) register x =
     choice (λ (k : Look). keep k (partOf lowHalf x) ≡ keep k x) (eqb (f .register) register) (λ e. kind-low (f .kind) x) (λ e. fields-low fs register x)

@@ -10,7 +10,7 @@ use Rattle.answers.specs.Answers.{Answer, accepted, through, andThen}
 use Rattle.function_ids.specs.FunctionIds.{readFunctionId}
 use Rattle.function_ids.specs.declared.FunctionId.{FunctionId}
 use Rattle.function_ids.specs.declared.FunctionId.the-variants as id
-use Rattle.function_ids.specs.CallTable.{Kind, powerState, entry, context, mpidr, level, feature, mode, resetType, offType, cookie, rangeBase, rangeLength, memoryProtect, Part, lowHalf, whole, ruleOf, lookBy, keptBy, valueIn}
+use Rattle.function_ids.specs.CallTable.{Kind, powerState, entry, context, mpidr, level, feature, mode, resetType, offType, cookie, rangeBase, rangeLength, memoryProtect, Part, lowHalf, whole, ruleOf, lookOfNumber, keptSet, valueIn}
 use Rattle.words.specs.Mpidrs.{readMpidr32, readMpidr64}
 use Rattle.words.specs.PowerStates.{readPowerState}
 use Rattle.words.specs.ResetTypes.{readResetType}
@@ -69,7 +69,7 @@ callIn words = andThen (readFunctionId (getD words 0 0)) (λ id. callOf id (valu
 
 -- decoding, by the part of r1 that memory protect looks at
 unfoldable pub decodeBy : Part → List ℕ → Answer Function
-decodeBy protect regs = callIn (keptBy (lookBy protect) regs)
+decodeBy protect regs = callIn (keptSet (lookOfNumber protect) regs)
 
 -- document 01's
 unfoldable pub decodeOf : List ℕ → Answer Function

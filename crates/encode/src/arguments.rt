@@ -5,13 +5,10 @@ ghost use Rattle.answers.specs.Answers.{accepted, through};
 ghost use Rattle.answers.specs.Errors.{wordAnswer};
 ghost use Rattle.encode_definition.specs.Arguments.{argumentsOf};
 ghost use Rattle.encode.specs.ArgumentAnswers.{argumentsAnswer};
-use function::Function;
 use answers::Error;
 use answers::WordResult;
-use words::base_word;
-use words::cookie_word;
+use function::Function;
 use words::flag_word;
-use words::length_word;
 
 // Words 1 to 3 of a call.
 pub struct Arguments {
@@ -54,17 +51,17 @@ pub fn argument_words(function: Function) -> ArgumentsResult
         Function::SystemOff => three(0, 0, 0),
         Function::SystemOff2 { off_type, cookie } => three(
             off_type.to_u32() as u64,
-            cookie_word(cookie),
+            cookie.to_u64(),
             0,
         ),
         Function::SystemReset => three(0, 0, 0),
         Function::SystemReset2 { reset_type, cookie } => with_first(
             reset_type.to_u32(),
-            cookie_word(cookie),
+            cookie.to_u64(),
             0,
         ),
         Function::MemProtect { enabled } => three(flag_word(enabled), 0, 0),
-        Function::MemProtectCheckRange { range } => three(base_word(range), length_word(range), 0),
+        Function::MemProtectCheckRange { range } => three(range.base_word(), range.length_word(), 0),
         Function::Features { psci_func_id } => three(psci_func_id.to_u32() as u64, 0, 0),
         Function::CpuFreeze => three(0, 0, 0),
         Function::CpuDefaultSuspend { entry } => three(

@@ -11,13 +11,13 @@ ghost use Rattle.encode.specs.ArgumentAnswers.{argumentsAnswer};
 
 pub mod arguments;
 
+use answers::Error;
 use crate::arguments::Arguments;
 use crate::arguments::ArgumentsResult;
 use crate::arguments::argument_words;
 use function::Function;
 use function_ids::FunctionId;
 use function_ids::FunctionIdResult;
-use answers::Error;
 
 // How many numbers a call's run has.
 const RUN: usize = 4;

@@ -2,9 +2,9 @@
 ghost use mathlib.Core.Path.{_≡_};
 ghost use Rattle.function_ids.specs.FunctionIds.{functionIdAnswer};
 ghost use Rattle.function.specs.Forms.{inForm, entryForm, mpidrForm, cookieForm, rangeForm, flagForm, onNumber};
+use answers::Error;
 use function_ids::FunctionId;
 use function_ids::FunctionIdResult;
-use answers::Error;
 use words::Aff3;
 use words::Cookie;
 use words::EntryPoint;

@@ -5,9 +5,9 @@ ghost use Rattle.function.specs.Functions.{functionIdOf};
 
 pub mod forms;
 
+use answers::Error;
 use function_ids::FunctionId;
 use function_ids::FunctionIdResult;
-use answers::Error;
 use words::Cookie;
 use words::EntryPoint;
 use words::MemProtectRange;

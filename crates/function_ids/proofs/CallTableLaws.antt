@@ -10,7 +10,7 @@ use borrow.Author.Tests.{eqb-true, eq-eqb}
 use Rattle.bits.proofs.Picks.{choice, both-true, other-true}
 use Rattle.function_ids.specs.FunctionIds.{Form, functions, functionNumber, form32, form64, narrow, wide}
 use Rattle.function_ids.specs.declared.FunctionId.the-variants.{MemProtect}
-use Rattle.function_ids.specs.CallTable.{Kind, powerState, entry, context, mpidr, level, feature, mode, resetType, offType, cookie, rangeBase, rangeLength, memoryProtect, kindNumber, sameKind, Listed, Row, one, both, callTable, numbers, Part, whole, zeroOrNot, bitsOf, Rule, rule, ruleIn, ruleOf, lookIn, lookBy, lookAt, valueIn}
+use Rattle.function_ids.specs.CallTable.{Kind, powerState, entry, context, mpidr, level, feature, mode, resetType, offType, cookie, rangeBase, rangeLength, memoryProtect, kindNumber, sameKind, Listed, Row, one, both, callTable, numbers, Part, whole, zeroOrNot, bitsOf, Rule, rule, ruleIn, ruleOf, lookOfFields, lookOfNumber, look01, valueIn}
 use Rattle.function_ids.specs.CallTableLaws.{CallTableLaws, apart, lacks, numbersWith, NotAmong}
 
 -- document 01's table has these numbers, and there are exactly 35
@@ -130,18 +130,18 @@ module _ (protect : Part) (form : Form) where
   kind-alike rangeLength h = refl
   kind-alike memoryProtect h = let z : _≡_ {A = ℕ} 0 1 = ap (λ (b : Bool). cond b 0 1) h in absurd (omega arith)
 
-  fields-alike : (fields : List Listed) (register : ℕ) → lacks memoryProtect fields ≡ true → lookIn protect form fields register ≡ lookIn whole form fields register
+  fields-alike : (fields : List Listed) (register : ℕ) → lacks memoryProtect fields ≡ true → lookOfFields protect form fields register ≡ lookOfFields whole form fields register
   fields-alike [] register h = refl
   fields-alike (f ∷ fs) register h =
       let p = other-true (sameKind (f .kind) memoryProtect) (lacks memoryProtect fs) h in
       simp (kind-alike (f .kind) (p .0), fields-alike fs register (p .1))
 
-protect-field : (protect : Part) → lookBy protect (functionNumber MemProtect) 1 ≡ zeroOrNot protect
+protect-field : (protect : Part) → lookOfNumber protect (functionNumber MemProtect) 1 ≡ zeroOrNot protect
 unfolding ruleOf
 protect-field protect = refl
 
 -- memory protect's number is the one that lists its field
-pub protect-alone : (protect : Part) (number register : ℕ) → (number ≡ functionNumber MemProtect → ⊥) → lookBy protect number register ≡ lookAt number register
+pub protect-alone : (protect : Part) (number register : ℕ) → (number ≡ functionNumber MemProtect → ⊥) → lookOfNumber protect number register ≡ look01 number register
 unfolding ruleOf
 protect-alone protect number register other =
     fields-alike protect (ruleOf number .form) (ruleOf number .fields) register (lacks-in memoryProtect number callTable (other, tt))

@@ -175,20 +175,20 @@ unfoldable pub ruleOf : ℕ → Rule
 ruleOf number = ruleIn callTable number
 
 -- what is looked at in a register under some fields
-abbrev pub lookIn : Part → Form → List Listed → ℕ → Look
-lookIn protect form [] register = nothing
-lookIn protect form (f ∷ fs) register = cond (eqb (f .register) register) (bitsOf protect form (f .kind)) (lookIn protect form fs register)
+abbrev pub lookOfFields : Part → Form → List Listed → ℕ → Look
+lookOfFields protect form [] register = nothing
+lookOfFields protect form (f ∷ fs) register = cond (eqb (f .register) register) (bitsOf protect form (f .kind)) (lookOfFields protect form fs register)
 
 -- what a function number looks at in a register
-abbrev pub lookBy : Part → ℕ → ℕ → Look
-lookBy protect number register = lookIn protect (ruleOf number .form) (ruleOf number .fields) register
+abbrev pub lookOfNumber : Part → ℕ → ℕ → Look
+lookOfNumber protect number register = lookOfFields protect (ruleOf number .form) (ruleOf number .fields) register
 
 -- the same in document 01, and in Change 2
-abbrev pub lookAt : ℕ → ℕ → Look
-lookAt number register = lookBy whole number register
+abbrev pub look01 : ℕ → ℕ → Look
+look01 number register = lookOfNumber whole number register
 
 abbrev pub lookSmccc : ℕ → ℕ → Look
-lookSmccc number register = lookBy lowHalf number register
+lookSmccc number register = lookOfNumber lowHalf number register
 
 -- what is kept of a register: the bits looked at, with 0 elsewhere, and 1 for a part that is not zero where only that counts
 abbrev pub keep : Look → ℕ → ℕ
@@ -201,17 +201,17 @@ abbrev pub numberIn : List ℕ → ℕ
 numberIn regs = getD regs 0 0 % 2 ^ 32
 
 -- a register set with nothing but its function number and what that looks at
-abbrev pub keptBy : (ℕ → ℕ → Look) → List ℕ → List ℕ
-keptBy look regs =
+abbrev pub keptSet : (ℕ → ℕ → Look) → List ℕ → List ℕ
+keptSet look regs =
     numberIn regs ∷ keep (look (numberIn regs) 1) (getD regs 1 0) ∷ keep (look (numberIn regs) 2) (getD regs 2 0) ∷
     keep (look (numberIn regs) 3) (getD regs 3 0) ∷ []
 
 -- the same in document 01, and in Change 2
-abbrev pub kept : List ℕ → List ℕ
-kept regs = keptBy lookAt regs
+abbrev pub kept01 : List ℕ → List ℕ
+kept01 regs = keptSet look01 regs
 
 abbrev pub keptSmccc : List ℕ → List ℕ
-keptSmccc regs = keptBy lookSmccc regs
+keptSmccc regs = keptSet lookSmccc regs
 
 -- the value of the field of a kind: the word in its register; 0 if there is no such field
 abbrev pub valueIn : List Listed → List ℕ → Kind → ℕ

@@ -8,7 +8,7 @@ use lib.Dec.{eqb}
 use lib.ListN.{length}
 use Rattle.function_ids.specs.FunctionIds.{functions, functionNumber, form32, form64}
 use Rattle.function_ids.specs.declared.FunctionId.the-variants.{MemProtect}
-use Rattle.function_ids.specs.CallTable.{Kind, sameKind, Listed, Row, one, both, callTable, numbers, Part, zeroOrNot, ruleOf, lookBy, lookAt, valueIn}
+use Rattle.function_ids.specs.CallTable.{Kind, sameKind, Listed, Row, one, both, callTable, numbers, Part, zeroOrNot, ruleOf, lookOfNumber, look01, valueIn}
 
 -- whether none of some fields stands in a register
 abbrev pub free : ℕ → List Listed → Bool
@@ -48,6 +48,6 @@ pub record CallTableLaws : Type 0 where
   pub no-such-field : (kind : Kind) (words : List ℕ) (number : ℕ) → NotAmong (numbersWith kind callTable) number →
       valueIn (ruleOf number .fields) words kind ≡ 0
   -- memory protect looks only at whether that part of r1 is zero
-  pub protect-field : (protect : Part) → lookBy protect (functionNumber MemProtect) 1 ≡ zeroOrNot protect
+  pub protect-field : (protect : Part) → lookOfNumber protect (functionNumber MemProtect) 1 ≡ zeroOrNot protect
   -- and every other number looks at what document 01 says, whichever part it is
-  pub protect-alone : (protect : Part) (number register : ℕ) → (number ≡ functionNumber MemProtect → ⊥) → lookBy protect number register ≡ lookAt number register
+  pub protect-alone : (protect : Part) (number register : ℕ) → (number ≡ functionNumber MemProtect → ⊥) → lookOfNumber protect number register ≡ look01 number register

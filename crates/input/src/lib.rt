@@ -11,7 +11,7 @@ pub struct Input {
     pub failed: bool,
 }
 
-// One read to the lent bytes from a place on: the place after what it put there, and whether it failed.
+// One read to the lent bytes from an offset on: the offset after what it put there, and whether it failed.
 fn read_from(fd: i32, buf: &mut [u8], from: usize) -> Input
     requires { ⌜ from ≤ length (now buf) ⌝ }
     ensures { λ r. ⌜ (from ≤ r .size) × (r .size ≤ length (now (buf .entry))) × (r .failed ≡ true → r .size ≡ from) ⌝ }

@@ -1,5 +1,5 @@
-// Document 01, "The call log and its sheet": numbers and words as text, each put into a lent run at a place. Where a text of the greatest
-// length has no room nothing is written, and the place is given back.
+// Document 01, "The call log and its sheet": numbers and words as text, each put into a lent run at an offset. Where a text of the greatest
+// length has no room nothing is written, and the offset is given back.
 ghost use mathlib.Core.Path.{_≡_};
 ghost use mathlib.Core.List.{_∷_, _++_};
 ghost use Prim.Native.Nat.{_+_, _-_, _≤_};
@@ -18,8 +18,8 @@ const PAIR_ROOM: usize = 37;
 // Four words, each after a space.
 const WORDS_ROOM: usize = 68;
 
-// How many places of a run have so many bytes from them on.
-fn places(lent: usize, room: usize) -> usize
+// How many offsets of a run have so many bytes from them on.
+fn offsets(lent: usize, room: usize) -> usize
     requires { ⌜ 1 ≤ room ⌝ }
     ensures { λ r. ⌜ r ≡ lent + 1 - room ⌝ }
 {
@@ -33,7 +33,7 @@ fn places(lent: usize, room: usize) -> usize
 pub fn put_decimal(out: &mut [u8], at: usize, n: u64) -> usize
     ensures { λ r. ⌜ WroteInRoom 20 (now (out .entry)) at (decimal n) (now (out .exit)) r ⌝ }
 {
-    if places(out.len(), MOST_DIGITS) <= at {
+    if offsets(out.len(), MOST_DIGITS) <= at {
         return at;
     }
     text::put_digits(out, at, n, MOST_DIGITS)
@@ -43,7 +43,7 @@ pub fn put_decimal(out: &mut [u8], at: usize, n: u64) -> usize
 pub fn put_pair(out: &mut [u8], at: usize, n: u64, word: u64) -> usize
     ensures { λ r. ⌜ WroteInRoom 37 (now (out .entry)) at (decimal n ++ (space ∷ wordText word)) (now (out .exit)) r ⌝ }
 {
-    if places(out.len(), PAIR_ROOM) <= at {
+    if offsets(out.len(), PAIR_ROOM) <= at {
         return at;
     }
     let second = text::put_digits(out, at, n, MOST_DIGITS);
@@ -54,7 +54,7 @@ pub fn put_pair(out: &mut [u8], at: usize, n: u64, word: u64) -> usize
 pub fn put_words(out: &mut [u8], at: usize, words: [u64; 4]) -> usize
     ensures { λ r. ⌜ WroteInRoom 68 (now (out .entry)) at (wordsText words) (now (out .exit)) r ⌝ }
 {
-    if places(out.len(), WORDS_ROOM) <= at {
+    if offsets(out.len(), WORDS_ROOM) <= at {
         return at;
     }
     let a = text::put_word(out, at, words[0]);

@@ -1,4 +1,4 @@
-// Writers where there is room: each puts its text into a run at a place, leaves all else as it was, and gives the place after it.
+// Writers where there is room: each puts its text into a run at an offset, leaves all else as it was, and gives the offset after it.
 ghost use mathlib.Core.List.{[], _∷_};
 ghost use Prim.Native.Nat.{_+_, _≤_, _<_};
 ghost use lib.ListN.{length};

@@ -9,7 +9,7 @@ use Rattle.answers.specs.Answers.{Answer, accepted, through, andThen}
 use Rattle.answers.proofs.Answering.{then-then}
 use Rattle.function_ids.specs.FunctionIds.{functionNumber, readFunctionId}
 use Rattle.function_ids.specs.declared.FunctionId.{FunctionId}
-use Rattle.function_ids.specs.CallTable.{Kind, powerState, sameKind, ruleOf, kept, valueIn, numberIn}
+use Rattle.function_ids.specs.CallTable.{Kind, powerState, sameKind, ruleOf, kept01, valueIn, numberIn}
 use Rattle.function_ids.proofs.FunctionIdLaws.{function-back}
 use Rattle.function_ids.proofs.CallTableLaws.{same-kind, no-such-field}
 use Rattle.words.specs.OriginalPowerStates.{readOriginalPowerState}
@@ -28,7 +28,7 @@ withWord call word = inState call (readOriginalPowerState word)
 
 -- the call of a known function by its three argument registers
 unfoldable pub originalKnown : FunctionId → ℕ → ℕ → ℕ → Answer OriginalFunction
-originalKnown id r1 r2 r3 = originalCallOf id (valueIn (ruleOf (functionNumber id) .fields) (kept (functionNumber id ∷ r1 ∷ r2 ∷ r3 ∷ [])))
+originalKnown id r1 r2 r3 = originalCallOf id (valueIn (ruleOf (functionNumber id) .fields) (kept01 (functionNumber id ∷ r1 ∷ r2 ∷ r3 ∷ [])))
 
 pub original-known : (id : FunctionId) (regs : List ℕ) → numberIn regs ≡ functionNumber id →
     originalKnown id (getD regs 1 0) (getD regs 2 0) (getD regs 3 0) ≡ originalDecodeOf regs
@@ -55,8 +55,8 @@ stateless-same the e =
 pub outside-by : (regs : List ℕ) → WithoutState (numberIn regs) → withWord (decodeOf regs) 0 ≡ originalDecodeOf regs
 unfolding originalDecodeOf originalCallIn decodeOf decodeBy callIn
 outside-by regs none =
-    let the : Kind → ℕ = valueIn (ruleOf (numberIn regs) .fields) (kept regs) in
-    let z : the powerState ≡ 0 = no-such-field powerState (kept regs) (numberIn regs) none in
+    let the : Kind → ℕ = valueIn (ruleOf (numberIn regs) .fields) (kept01 regs) in
+    let z : the powerState ≡ 0 = no-such-field powerState (kept01 regs) (numberIn regs) none in
     sym (then-then (readFunctionId (numberIn regs)) (λ id. callOf id the) (λ f. through (withState f) (readOriginalPowerState 0)))
     ∙ ap (λ (k : Kind → ℕ). andThen (readFunctionId (numberIn regs)) (λ id. withWord (callOf id k) 0)) (sym (stateless-same the z))
     ∙ ap (λ (w : ℕ). andThen (readFunctionId (numberIn regs)) (λ id. withWord (callOf id (stateless the)) w)) (sym z)

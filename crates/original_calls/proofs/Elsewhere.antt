@@ -8,7 +8,7 @@ use Rattle.answers.specs.Answers.{Answer, accepted, refused}
 use Rattle.answers.proofs.Answering.{came-then, came-through}
 use Rattle.function_ids.specs.FunctionIds.{functionNumber}
 use Rattle.function_ids.specs.declared.FunctionId.{FunctionId}
-use Rattle.function_ids.specs.CallTable.{numberIn, kept}
+use Rattle.function_ids.specs.CallTable.{numberIn, kept01}
 use Rattle.words.specs.OriginalPowerStates.{originalPowerStateOf, readOriginalPowerState}
 use Rattle.words.specs.declared.power_states.PowerState.the-variants.{PowerDown}
 use Rattle.words.specs.declared.original_power_states.OriginalPowerState.{OriginalPowerState}
@@ -18,7 +18,7 @@ use Rattle.decode_definition.specs.Decode.{decodeOf}
 use Rattle.encode_definition.specs.Arguments.{argumentsOf}
 use Rattle.encode_definition.specs.Encode.{encodeOf, writtenOf}
 use Rattle.roundtrip.specs.Codec.{Registers}
-use Rattle.roundtrip.proofs.Psci.{written}
+use Rattle.roundtrip.proofs.TwoCodecs.{written}
 use Rattle.original_calls.specs.OriginalFunctions.{functionOf, withState, originalIdOf}
 use Rattle.original_calls.specs.OriginalCalls.{originalDecodeOf, originalArgumentsOf, originalEncodeOf}
 use Rattle.original_calls.specs.TwoFormats.{WithoutState, Same}
@@ -32,8 +32,8 @@ use Rattle.original_calls.proofs.Sorts.{suspend, residency, count, IsOt
 number-is : (r : List ℕ) (g : Function) → Registers r → decodeOf r ≡ accepted g → (f : FunctionId) × ((functionIdOf g ≡ accepted f) × (functionNumber f ≡ numberIn r))
 unfolding encodeOf writtenOf
 number-is r g h d =
-    let o = came-then (functionIdOf g) _ (kept r) (written r g (0 ∷ 0 ∷ 0 ∷ 0 ∷ []) h refl d) in
-    let p = came-through _ (argumentsOf g) (kept r) (o .1 .1) in
+    let o = came-then (functionIdOf g) _ (kept01 r) (written r g (0 ∷ 0 ∷ 0 ∷ 0 ∷ []) h refl d) in
+    let p = came-through _ (argumentsOf g) (kept01 r) (o .1 .1) in
     (o .0, (o .1 .0, ap (λ (w : List ℕ). getD w 0 0) (p .1 .1)))
 
 -- the power state of the word 0

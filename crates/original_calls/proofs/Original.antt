@@ -10,7 +10,7 @@ use Rattle.answers.proofs.Answering.{came-then, same-accepted}
 use Rattle.function_ids.specs.FunctionIds.{functionNumber}
 use Rattle.function_ids.specs.declared.FunctionId.{FunctionId}
 use Rattle.function_ids.specs.declared.FunctionId.the-variants as id
-use Rattle.function_ids.specs.CallTable.{kept, numberIn}
+use Rattle.function_ids.specs.CallTable.{kept01, numberIn}
 use Rattle.function_ids.specs.CallTableLaws.{NotAmong}
 use Rattle.words.specs.OriginalPowerStates.{readOriginalPowerState}
 use Rattle.function.specs.declared.Function.{Function}
@@ -19,7 +19,7 @@ use Rattle.encode_definition.specs.Encode.{writtenOf}
 use Rattle.encode_definition.proofs.Laws.{run-of-four}
 use Rattle.roundtrip.specs.Codec.{Registers}
 use Rattle.roundtrip.proofs.Demand3.{demand3}
-use Rattle.roundtrip.proofs.Psci.{written}
+use Rattle.roundtrip.proofs.TwoCodecs.{written}
 use Rattle.original_calls.specs.OriginalFunctions.{withState, functionOf}
 use Rattle.original_calls.specs.OriginalCalls.{originalCallIn, originalDecodeOf, originalEncodeOf}
 use Rattle.original_calls.specs.OriginalCodec.{original, Demand3OfOriginal}
@@ -33,7 +33,7 @@ use Rattle.original_calls.proofs.Sorts.{IsOther}
 
 -- a set is written as what is kept of it
 abbrev WrittenBack : List ℕ → OriginalFunction → List ℕ → Type 0
-WrittenBack r f run = originalEncodeOf f run ≡ accepted (kept r)
+WrittenBack r f run = originalEncodeOf f run ≡ accepted (kept01 r)
 
 -- a call that has no power state: document 01's words
 other-written : (r : List ℕ) (f : OriginalFunction) (run : List ℕ) (g : Function) → IsOther g → Registers r → length run ≡ 4 → decodeOf r ≡ accepted g →
@@ -47,8 +47,8 @@ module _ (r : List ℕ) (f : OriginalFunction) (run : List ℕ) (h : Registers r
   by-row : (g : FunctionId) → Row g → numberIn r ≡ functionNumber g → WrittenBack r f run
   unfolding originalEncodeOf writtenOf
   by-row g row p =
-      let w = subst (λ (x : Answer OriginalFunction). Writes x (kept (functionNumber g ∷ getD r 1 0 ∷ getD r 2 0 ∷ getD r 3 0 ∷ []))) (original-known g r p ∙ d) (row _ _ _) in
-      let k : kept (functionNumber g ∷ getD r 1 0 ∷ getD r 2 0 ∷ getD r 3 0 ∷ []) ≡ kept r = simp (sym p, mod-mod) in
+      let w = subst (λ (x : Answer OriginalFunction). Writes x (kept01 (functionNumber g ∷ getD r 1 0 ∷ getD r 2 0 ∷ getD r 3 0 ∷ []))) (original-known g r p ∙ d) (row _ _ _) in
+      let k : kept01 (functionNumber g ∷ getD r 1 0 ∷ getD r 2 0 ∷ getD r 3 0 ∷ []) ≡ kept01 r = simp (sym p, mod-mod) in
       simp (eq-eqb (length run) 4 l) (w ∙ ap accepted k)
 
   -- any other number
@@ -71,7 +71,7 @@ module _ (r : List ℕ) (f : OriginalFunction) (run : List ℕ) (h : Registers r
       which (id.CpuSuspend32 ∷ id.CpuSuspend64 ∷ id.PsciStatResidency32 ∷ id.PsciStatResidency64 ∷ id.PsciStatCount32 ∷ id.PsciStatCount64 ∷ [])
       (suspend32, (suspend64, (residency32, (residency64, (count32, (count64, tt)))))) by-01
 
-decodes : (r : List ℕ) → originalDecodeOf r ≡ originalCallIn (kept r)
+decodes : (r : List ℕ) → originalDecodeOf r ≡ originalCallIn (kept01 r)
 unfolding originalDecodeOf
 decodes r = refl
 

@@ -7,7 +7,7 @@ use Rattle.answers.specs.Answers.{Answer, accepted, refused, through}
 use Rattle.function_ids.specs.FunctionIds.{Form, narrow, wide, functionNumber}
 use Rattle.function_ids.specs.declared.FunctionId.{FunctionId}
 use Rattle.function_ids.specs.declared.FunctionId.the-variants as id
-use Rattle.function_ids.specs.CallTable.{ruleOf, kept}
+use Rattle.function_ids.specs.CallTable.{ruleOf, kept01}
 use Rattle.words.specs.Mpidrs.{writeMpidr64}
 use Rattle.words.specs.PowerStates.{readPowerState}
 use Rattle.words.specs.OriginalPowerStates.{readOriginalPowerState, writeOriginalPowerState}
@@ -59,7 +59,7 @@ module _ (words : List ℕ) (b : ℕ) (h : b < 2 ^ 32) where
 
 -- a function's call by its registers is written as what is kept of them
 abbrev pub Row : FunctionId → Type 0
-Row f = (r1 r2 r3 : ℕ) → Writes (originalKnown f r1 r2 r3) (kept (functionNumber f ∷ r1 ∷ r2 ∷ r3 ∷ []))
+Row f = (r1 r2 r3 : ℕ) → Writes (originalKnown f r1 r2 r3) (kept01 (functionNumber f ∷ r1 ∷ r2 ∷ r3 ∷ []))
 
 low : (x : ℕ) → x % 2 ^ 32 < 2 ^ 32
 low x = omega arith

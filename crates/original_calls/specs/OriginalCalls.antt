@@ -7,7 +7,7 @@ use lib.ListN.{getD}
 use Rattle.answers.specs.Answers.{Answer, through, andThen}
 use Rattle.function_ids.specs.FunctionIds.{readFunctionId}
 use Rattle.function_ids.specs.declared.FunctionId.{FunctionId}
-use Rattle.function_ids.specs.CallTable.{Kind, powerState, sameKind, ruleOf, kept, valueIn}
+use Rattle.function_ids.specs.CallTable.{Kind, powerState, sameKind, ruleOf, kept01, valueIn}
 use Rattle.words.specs.Mpidrs.{writeMpidr64}
 use Rattle.words.specs.EntryPoints.{entryAddress, entryContext}
 use Rattle.words.specs.OriginalPowerStates.{readOriginalPowerState, writeOriginalPowerState}
@@ -40,7 +40,7 @@ unfoldable pub originalCallIn : List ℕ → Answer OriginalFunction
 originalCallIn words = andThen (readFunctionId (getD words 0 0)) (λ id. originalCallOf id (valueIn (ruleOf (getD words 0 0) .fields) words))
 
 unfoldable pub originalDecodeOf : List ℕ → Answer OriginalFunction
-originalDecodeOf regs = originalCallIn (kept regs)
+originalDecodeOf regs = originalCallIn (kept01 regs)
 
 -- ---- encoding
 

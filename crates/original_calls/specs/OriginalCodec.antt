@@ -3,14 +3,14 @@
 use mathlib.Core.List.{List}
 use Prim.Native.Nat.{ℕ}
 use Rattle.answers.specs.Answers.{Answer}
-use Rattle.function_ids.specs.CallTable.{lookAt}
+use Rattle.function_ids.specs.CallTable.{look01}
 use Rattle.roundtrip.specs.Codec.{Codec, Demand3}
 use Rattle.roundtrip.specs.Recode.{recodeBy}
 use Rattle.original_calls.specs.OriginalCalls.{originalDecodeOf, originalEncodeOf}
 use Rattle.original_calls.specs.declared.original_function.OriginalFunction.{OriginalFunction}
 
 abbrev pub original : Codec
-original = record { Call = OriginalFunction; decode = originalDecodeOf; encode = originalEncodeOf; look = lookAt }
+original = record { Call = OriginalFunction; decode = originalDecodeOf; encode = originalEncodeOf; look = look01 }
 
 abbrev pub Demand3OfOriginal : Type 0
 Demand3OfOriginal = Demand3 original

@@ -2,11 +2,11 @@
 ghost use mathlib.Core.Path.{_≡_};
 ghost use Rattle.function_ids.specs.FunctionIds.{functionIdAnswer};
 ghost use Rattle.original_calls.specs.OriginalFunctions.{functionOf, withState, originalIdOf};
+use answers::Error;
 use function::Function;
 use function::forms;
 use function_ids::FunctionId;
 use function_ids::FunctionIdResult;
-use answers::Error;
 use words::Cookie;
 use words::EntryPoint;
 use words::MemProtectRange;

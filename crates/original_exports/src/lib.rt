@@ -12,18 +12,18 @@ ghost use Rattle.original_exports.specs.OriginalAsked.{encodeOriginalWor
 pub mod original_asked;
 pub mod original_words;
 
+use answers::told::Refusal;
+use answers::told::accepted_words;
+use answers::told::refusal_of;
+use call_exports::store;
+use call_exports::told_words;
 use crate::original_asked::OriginalAsked;
 use crate::original_asked::original_asked;
 use crate::original_words::original_words;
-use call_exports::store;
-use call_exports::told_words;
 use original_calls::OriginalFunctionResult;
 use original_calls::decode_original;
 use original_calls::encode_original;
 use original_calls::recode_original;
-use answers::told::Refusal;
-use answers::told::accepted_words;
-use answers::told::refusal_of;
 
 // The nine words of the call that four registers make. Refused with decode's numbers, 1, 3 to 8 and 26; the lent words are then as they were.
 #[no_mangle]

@@ -1,10 +1,10 @@
 // A record is sixteen words: the operation, a call or a single value as nine words, four registers, a refusal's number and what it carries.
 // An answer changes only what it gives; every other word stays as it was asked.
-use call_exports::parts::wide32;
-use call_exports::plain_words::differing_bits;
 use answers::Error;
 use answers::WordResult;
 use answers::told::Refusal;
+use call_exports::parts::wide32;
+use call_exports::plain_words::differing_bits;
 
 // Refusals of the record itself, beside the papers': an operation that there is not, a tag that no call has, and a part that has no room
 // in its place.

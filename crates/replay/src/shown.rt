@@ -1,4 +1,10 @@
 // Labelled cases: a line for each, with its label and what the codec answers.
+use answers::told::Refusal;
+use call_exports::call_asked::Asked;
+use call_exports::call_asked::call_asked;
+use call_exports::psci_recode;
+use call_exports::psci_recode_smccc;
+use call_log::big_endian::byte_at;
 use crate::operations::answer;
 use crate::records::UNKNOWN_TAG;
 use crate::records::WRONG_PART;
@@ -6,18 +12,12 @@ use crate::records::is_to_registers;
 use crate::records::nine_in;
 use crate::records::regs_in;
 use crate::records::told_record;
-use call_exports::call_asked::Asked;
-use call_exports::call_asked::call_asked;
-use call_exports::psci_recode;
-use call_exports::psci_recode_smccc;
-use call_log::big_endian::byte_at;
 use encode::EncodeResult;
 use line_exports::Written;
 use line_exports::psci_line;
 use original_exports::original_asked::OriginalAsked;
 use original_exports::original_asked::original_asked;
 use original_exports::psci_recode_original;
-use answers::told::Refusal;
 
 // Operations that only a labelled record has: a heading, which is a label alone; a call written to a lent run, whose length is word 15, by
 // document 01 or with an original power state; and, each by the function that is exported to C, the three recodes of four registers and the line of a

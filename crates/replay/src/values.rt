@@ -1,5 +1,6 @@
 // A single value as nine words, a 0, its parts and zeros; and the value that parts stand for, each part cut to its place. call_exports has
 // the parts that a call has too.
+use answers::Error;
 use bits::signs;
 use call_exports::parts::down;
 use call_exports::parts::entry_of;
@@ -12,12 +13,11 @@ use call_exports::parts::vendor;
 use call_exports::parts::vendor_type;
 use call_exports::places::function_place;
 use call_exports::places::mode_place;
-use call_exports::plain_words::low8;
 use call_exports::plain_words::low32;
+use call_exports::plain_words::low8;
 use codes::ErrorCode;
 use codes::ReturnCode;
 use function_ids::FunctionId;
-use answers::Error;
 use words::EntryPoint;
 use words::HwState;
 use words::Mpidr;

@@ -15,7 +15,7 @@ use Rattle.answers.specs.Answers.{Answer, accepted}
 use Rattle.answers.specs.Lent.{left}
 use Rattle.answers.proofs.Answering.{same-accepted}
 use Rattle.answers.proofs.Lending.{fronted-all}
-use Rattle.function_ids.specs.CallTable.{Part, lowHalf, whole, partOf, Look, nothing, value, zeroOrNot, keep, numberIn, keptBy}
+use Rattle.function_ids.specs.CallTable.{Part, lowHalf, whole, partOf, Look, nothing, value, zeroOrNot, keep, numberIn, keptSet}
 use Rattle.roundtrip.specs.Codec.{Codec, Registers, bit, width, InField, AgreeIn, Agree, Inside, wordsIn, OfOne, OfTwo, Demand3}
 use Rattle.roundtrip.proofs.Bits.{bits-mod, mod-bits}
 
@@ -88,13 +88,13 @@ keep-clear (zeroOrNot part) x j h o =
 -- A codec by a table: decoding is a function of the kept words, and what it accepts is written as them.
 pub record ByTable (c : Codec) : Type 0 where
   pub call : List ℕ → Answer (c .Call)
-  pub decodes : (r : List ℕ) → c .decode r ≡ call (keptBy (c .look) r)
+  pub decodes : (r : List ℕ) → c .decode r ≡ call (keptSet (c .look) r)
   pub writes : (r : List ℕ) (f : c .Call) (run : List ℕ) → Registers r → length run ≡ 4 → c .decode r ≡ accepted f →
-      c .encode f run ≡ accepted (keptBy (c .look) r)
+      c .encode f run ≡ accepted (keptSet (c .look) r)
 
 module _ (c : Codec) (by : ByTable c) where
   kept : List ℕ → List ℕ
-  kept r = keptBy (c .look) r
+  kept r = keptSet (c .look) r
 
   -- what is kept twice is kept once
   kept-kept : (r : List ℕ) → kept (kept r) ≡ kept r
@@ -138,7 +138,7 @@ module _ (c : Codec) (by : ByTable c) where
     -- the kept words are four, and so all that is left
     words-are : wordsIn c f run ≡ kept r
     unfolding kept
-    words-are = ap (λ (a : Answer (List ℕ)). left a run) (by .writes r f run h l d) ∙ fronted-all (keptBy (c .look) r) run (sym l)
+    words-are = ap (λ (a : Answer (List ℕ)). left a run) (by .writes r f run h l d) ∙ fronted-all (keptSet (c .look) r) run (sym l)
 
   positive : {i : ℕ} → 0 < suc i
   positive = omega arith

@@ -9,7 +9,7 @@ use lib.Pow.{pow-mono, pow-pos}
 use borrow.Author.Tests.{eqb-true}
 use Rattle.bits.proofs.Picks.{choice}
 use Rattle.function_ids.specs.CallTable.{Part, lowHalf, whole, partOf, Look, nothing, value, zeroOrNot, keep}
-use Rattle.roundtrip.specs.Codec.{Codec, width, InField, Inside, keptOf, InsideLaws}
+use Rattle.roundtrip.specs.Codec.{Codec, width, InField, Inside, keptRegister, InsideLaws}
 
 -- a bit of the low half is kept there
 low-bit : (j : ℕ) → j < 32 → 0 < 2 ^ j % 2 ^ 32
@@ -35,7 +35,7 @@ field-bit (zeroOrNot part) j h =
 pub inside-laws : (c : Codec) → InsideLaws c
 inside-laws c = record { looked-at = at; none = nowhere }
   where
-    at : (number i j : ℕ) → Inside c number i j → 0 < keptOf c number i (2 ^ j)
+    at : (number i j : ℕ) → Inside c number i j → 0 < keptRegister c number i (2 ^ j)
     at number zero j (inl (p, q)) = low-bit j q
     at number zero j (inr (p, q)) = absurd (omega arith)
     at number (suc i) j (inl (p, q)) = absurd (omega arith)

@@ -12,7 +12,7 @@ use Rattle.answers.proofs.Answering.{same-accepted}
 use Rattle.function_ids.specs.FunctionIds.{Form, narrow, wide, functionNumber}
 use Rattle.function_ids.specs.declared.FunctionId.{FunctionId}
 use Rattle.function_ids.specs.declared.FunctionId.the-variants as id
-use Rattle.function_ids.specs.CallTable.{Part, lowHalf, whole, Look, nothing, value, zeroOrNot, ruleOf, lookBy, valueIn}
+use Rattle.function_ids.specs.CallTable.{Part, lowHalf, whole, Look, nothing, value, zeroOrNot, ruleOf, lookOfNumber, valueIn}
 use Rattle.words.specs.Mpidrs.{readMpidr32, readMpidr64, writeMpidr64}
 use Rattle.words.specs.declared.mpidrs.Mpidr.{Mpidr}
 use Rattle.words.proofs.MpidrWords.{mpidr32-wide, mpidr64-wide}
@@ -115,7 +115,7 @@ protect-row (suc (suc a)) h = absurd (omega arith)
 
 -- whichever part of r1 memory protect looks at
 pub row-law : (protect : Part) (f : FunctionId) (a b c : ℕ) →
-    FitsLook (lookBy protect (functionNumber f) 1) a → FitsLook (lookBy protect (functionNumber f) 2) b → FitsLook (lookBy protect (functionNumber f) 3) c →
+    FitsLook (lookOfNumber protect (functionNumber f) 1) a → FitsLook (lookOfNumber protect (functionNumber f) 2) b → FitsLook (lookOfNumber protect (functionNumber f) 3) c →
     WritesBackAs (callOf f (valueIn (ruleOf (functionNumber f) .fields) (row f a b c))) (row f a b c)
 unfolding ruleOf wordsOf functionIdOf argumentsOf
 row-law protect id.PsciVersion a b c p q s = zeros p q s

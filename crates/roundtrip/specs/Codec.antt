@@ -53,13 +53,13 @@ module _ (c : Codec) where
   Inside number i j = ((i ≡ 0) × (j < 32)) ⊎ ((0 < i) × InField (c .look number i) j)
 
   -- what is kept of a register: of r0 its low half, the function number; of another what is looked at in it
-  abbrev pub keptOf : ℕ → ℕ → ℕ → ℕ
-  keptOf number zero word = word % 2 ^ 32
-  keptOf number (suc i) word = keep (c .look number (suc i)) word
+  abbrev pub keptRegister : ℕ → ℕ → ℕ → ℕ
+  keptRegister number zero word = word % 2 ^ 32
+  keptRegister number (suc i) word = keep (c .look number (suc i)) word
 
   pub record InsideLaws : Type 0 where
     -- no bit is inside but those that are looked at: what is kept of a register in which such a bit alone is set is not 0
-    pub looked-at : (number i j : ℕ) → Inside number i j → 0 < keptOf number i (2 ^ j)
+    pub looked-at : (number i j : ℕ) → Inside number i j → 0 < keptRegister number i (2 ^ j)
     -- so a register in which nothing is looked at has no bit inside
     pub none : (number i j : ℕ) → 0 < i → c .look number i ≡ nothing → Inside number i j → ⊥
 

@@ -1,6 +1,6 @@
 pub mod Cases
 pub mod Codec
-pub mod Psci
+pub mod Document01
 pub mod Recode
 pub mod Smccc
 pub mod SmcccCases

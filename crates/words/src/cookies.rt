@@ -7,12 +7,14 @@ pub enum Cookie {
     Cookie64(u64),
 }
 
-// The cookie as a word: a 32-bit one is widened.
-pub fn cookie_word(cookie: Cookie) -> u64
-    ensures { λ r. ⌜ r ≡ cookieWord cookie ⌝ }
-{
-    match cookie {
-        Cookie::Cookie32(value) => value as u64,
-        Cookie::Cookie64(value) => value,
+impl Cookie {
+    // The cookie as a word: a 32-bit one is widened.
+    pub fn to_u64(self) -> u64
+        ensures { λ r. ⌜ r ≡ cookieWord self ⌝ }
+    {
+        match self {
+            Self::Cookie32(value) => value as u64,
+            Self::Cookie64(value) => value,
+        }
     }
 }

@@ -14,6 +14,26 @@ pub enum EntryPoint {
 }
 
 impl EntryPoint {
+    // A 32-bit entry point from its two words.
+    pub fn entry32(low_address: u32, low_context: u32) -> Self
+        ensures { λ r. ⌜ r ≡ EntryPoint.Entry32 «low_address» «low_context» ⌝ }
+    {
+        Self::Entry32 {
+            entry_point_address: low_address,
+            context_id: low_context,
+        }
+    }
+
+    // A 64-bit entry point from its two words.
+    pub fn entry64(address: u64, context: u64) -> Self
+        ensures { λ r. ⌜ r ≡ EntryPoint.Entry64 address context ⌝ }
+    {
+        Self::Entry64 {
+            entry_point_address: address,
+            context_id: context,
+        }
+    }
+
     // The address; a 32-bit one is widened.
     pub fn entry_point_address(self) -> u64
         ensures { λ r. ⌜ r ≡ entryAddress self ⌝ }
@@ -44,25 +64,5 @@ impl EntryPoint {
                 context_id,
             } => context_id,
         }
-    }
-}
-
-// A 32-bit entry point from its two words.
-pub fn entry32(low_address: u32, low_context: u32) -> EntryPoint
-    ensures { λ r. ⌜ r ≡ EntryPoint.Entry32 «low_address» «low_context» ⌝ }
-{
-    EntryPoint::Entry32 {
-        entry_point_address: low_address,
-        context_id: low_context,
-    }
-}
-
-// A 64-bit entry point from its two words.
-pub fn entry64(address: u64, context: u64) -> EntryPoint
-    ensures { λ r. ⌜ r ≡ EntryPoint.Entry64 address context ⌝ }
-{
-    EntryPoint::Entry64 {
-        entry_point_address: address,
-        context_id: context,
     }
 }

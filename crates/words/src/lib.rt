@@ -15,16 +15,11 @@ mod system_off2_types;
 mod versions;
 
 pub use cookies::Cookie;
-pub use cookies::cookie_word;
 pub use entry_points::EntryPoint;
-pub use entry_points::entry32;
-pub use entry_points::entry64;
 pub use flags::flag_word;
 pub use hw_states::HwState;
 pub use hw_states::HwStateResult;
 pub use mem_protect_ranges::MemProtectRange;
-pub use mem_protect_ranges::base_word;
-pub use mem_protect_ranges::length_word;
 pub use mpidrs::Aff3;
 pub use mpidrs::Mpidr;
 pub use mpidrs::MpidrResult;

@@ -7,22 +7,24 @@ pub enum MemProtectRange {
     Range64 { base: u64, length: u64 },
 }
 
-// The base of a range as a word: a 32-bit one is widened.
-pub fn base_word(range: MemProtectRange) -> u64
-    ensures { λ r. ⌜ r ≡ baseWord range ⌝ }
-{
-    match range {
-        MemProtectRange::Range32 { base, length: _ } => base as u64,
-        MemProtectRange::Range64 { base, length: _ } => base,
+impl MemProtectRange {
+    // The base as a word: a 32-bit one is widened.
+    pub fn base_word(self) -> u64
+        ensures { λ r. ⌜ r ≡ baseWord self ⌝ }
+    {
+        match self {
+            Self::Range32 { base, length: _ } => base as u64,
+            Self::Range64 { base, length: _ } => base,
+        }
     }
-}
 
-// The length of a range as a word: a 32-bit one is widened.
-pub fn length_word(range: MemProtectRange) -> u64
-    ensures { λ r. ⌜ r ≡ lengthWord range ⌝ }
-{
-    match range {
-        MemProtectRange::Range32 { base: _, length } => length as u64,
-        MemProtectRange::Range64 { base: _, length } => length,
+    // The length as a word: a 32-bit one is widened.
+    pub fn length_word(self) -> u64
+        ensures { λ r. ⌜ r ≡ lengthWord self ⌝ }
+    {
+        match self {
+            Self::Range32 { base: _, length } => length as u64,
+            Self::Range64 { base: _, length } => length,
+        }
     }
 }

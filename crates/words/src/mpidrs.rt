@@ -3,9 +3,9 @@ ghost use mathlib.Core.Path.{_≡_};
 ghost use Rattle.answers.specs.Errors.{wordAnswer};
 ghost use Rattle.bits.specs.Halves.{registerOf};
 ghost use Rattle.words.specs.Mpidrs.{readMpidr32, readMpidr64, mpidr64, writeMpidr32, writeMpidr64, mpidrAnswer, mpidrOf, lowWord, mbzBits64, mbzHalves64};
-use bits::halves::Halves;
 use answers::Error;
 use answers::WordResult;
+use bits::halves::Halves;
 
 // Affinity 3, which a 32-bit MPIDR lacks.
 pub enum Aff3 {

@@ -1,8 +1,8 @@
 ghost use mathlib.Core.Path.{_≡_};
 ghost use Rattle.words.specs.PsciFeatures.{readFeature, featureAnswer, featureNumber};
+use answers::Error;
 use function_ids::FunctionId;
 use function_ids::FunctionIdResult;
-use answers::Error;
 
 // PSCI_FEATURES psci_func_id, DEN0022 5.1.15.
 pub enum PsciFeature {

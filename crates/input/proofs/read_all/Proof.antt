@@ -14,7 +14,7 @@ Inv-loop fd buf₀ size₀ buf size = (size ≤ length buf) × (length buf ≡ l
 abbrev μ-loop : tie.MeasureT-loop
 μ-loop fd buf₀ size₀ buf size = length buf - size
 
--- a read that failed put nothing behind the place where it began, and that is before the end
+-- a read that failed put nothing behind the offset where it began, and that is before the end
 failed-read : tie.Need-returns Inv-loop μ-loop
 failed-read c = record {
   as-many = omega arith;

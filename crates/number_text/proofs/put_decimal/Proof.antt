@@ -10,7 +10,7 @@ put-decimal-spec =
     tie.close
     (tie.spec
     (λ c κs. search needs)
-    (λ c. no-room (omega (arith, c .if1, c .before .places)))
-    (λ c κs. omega (arith, c .before .if1, c .before .before .places))
+    (λ c. no-room (omega (arith, c .if1, c .before .offsets)))
+    (λ c κs. omega (arith, c .before .if1, c .before .before .offsets))
     (λ c. search needs)
-    (λ c. with-room (omega (arith, c .before .before .before .before .if1, c .before .before .before .before .before .places)) (c .before .before .put-digits .ensures)))
+    (λ c. with-room (omega (arith, c .before .before .before .before .if1, c .before .before .before .before .before .offsets)) (c .before .before .put-digits .ensures)))

@@ -11,8 +11,8 @@ put-pair-spec =
     tie.close
     (tie.spec
     (λ c κs. search needs)
-    (λ c. no-room (omega (arith, c .if1, c .before .places)))
-    (λ c κs. omega (arith, c .before .if1, c .before .before .places))
-    (λ c κs. omega (arith, length-decimal 20 (c .before .before .before .before .before .before .before .before .args .n), c .before .before .before .put-digits, c .before .before .before .before .before .if1, c .before .before .before .before .before .before .places))
+    (λ c. no-room (omega (arith, c .if1, c .before .offsets)))
+    (λ c κs. omega (arith, c .before .if1, c .before .before .offsets))
+    (λ c κs. omega (arith, length-decimal 20 (c .before .before .before .before .before .before .before .before .args .n), c .before .before .before .put-digits, c .before .before .before .before .before .if1, c .before .before .before .before .before .before .offsets))
     (λ c. search needs)
-    (λ c. with-room (omega (arith, c .before .before .before .before .before .before .before .before .if1, c .before .before .before .before .before .before .before .before .before .places)) (wrote-then (c .before .before .before .before .before .before .put-digits .ensures) (c .before .before .put-word .ensures))))
+    (λ c. with-room (omega (arith, c .before .before .before .before .before .before .before .before .if1, c .before .before .before .before .before .before .before .before .before .offsets)) (wrote-then (c .before .before .before .before .before .before .put-digits .ensures) (c .before .before .put-word .ensures))))

@@ -5,7 +5,7 @@ use mir.Syntax.{w64}
 use mir.Val.{Fits}
 use borrow.Author.Needs.{needs}
 use Rattle.roundtrip.specs.Smccc.{smccc}
-use Rattle.roundtrip.proofs.Psci.{demand3-of-smccc}
+use Rattle.roundtrip.proofs.TwoCodecs.{demand3-of-smccc}
 use Rattle.roundtrip.proofs.Recoding.{by-smccc, read-again, four-of-01}
 use Rattle.roundtrip.proofs.recode_smccc.Statement.{statement}
 use Rattle.roundtrip.proofs.recode_smccc.Tie as tie

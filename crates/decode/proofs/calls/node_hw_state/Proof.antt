@@ -1,8 +1,8 @@
--- `decode::core_calls::node_hw_state` meets its contract.
+-- `decode::calls::node_hw_state` meets its contract.
 -- Assumes nothing.
 use borrow.Author.Needs.{needs}
-use Rattle.decode.proofs.core_calls.node_hw_state.Statement.{statement}
-use Rattle.decode.proofs.core_calls.node_hw_state.Tie as tie
+use Rattle.decode.proofs.calls.node_hw_state.Statement.{statement}
+use Rattle.decode.proofs.calls.node_hw_state.Tie as tie
 
 pub node-hw-state-spec : {M : Type 1} → statement M
 node-hw-state-spec =

@@ -1,9 +1,9 @@
--- `decode::affinity_calls::affinity_info` meets its contract.
+-- `decode::calls::affinity_info` meets its contract.
 -- Assumes nothing.
 use borrow.Author.Needs.{needs}
 use borrow.Author.Tests.{le-leb, lt-leb}
-use Rattle.decode.proofs.affinity_calls.affinity_info.Statement.{statement}
-use Rattle.decode.proofs.affinity_calls.affinity_info.Tie as tie
+use Rattle.decode.proofs.calls.affinity_info.Statement.{statement}
+use Rattle.decode.proofs.calls.affinity_info.Tie as tie
 
 pub affinity-info-spec : {M : Type 1} → statement M
 affinity-info-spec =

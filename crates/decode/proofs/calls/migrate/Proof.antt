@@ -1,8 +1,8 @@
--- `decode::core_calls::migrate` meets its contract.
+-- `decode::calls::migrate` meets its contract.
 -- Assumes nothing.
 use borrow.Author.Needs.{needs}
-use Rattle.decode.proofs.core_calls.migrate.Statement.{statement}
-use Rattle.decode.proofs.core_calls.migrate.Tie as tie
+use Rattle.decode.proofs.calls.migrate.Statement.{statement}
+use Rattle.decode.proofs.calls.migrate.Tie as tie
 
 pub migrate-spec : {M : Type 1} → statement M
 migrate-spec =

@@ -11,13 +11,13 @@ use Rattle.answers.proofs.Answering.{came-then}
 use Rattle.function_ids.specs.FunctionIds.{functionNumber, readFunctionId}
 use Rattle.function_ids.specs.declared.FunctionId.{FunctionId}
 use Rattle.function_ids.proofs.FunctionIdLaws.{function-number}
-use Rattle.function_ids.specs.CallTable.{Part, lowHalf, whole, partOf, Look, nothing, value, zeroOrNot, ruleOf, lookBy, keep, numberIn, keptBy, kept, keptSmccc, valueIn}
+use Rattle.function_ids.specs.CallTable.{Part, lowHalf, whole, partOf, Look, nothing, value, zeroOrNot, ruleOf, lookOfNumber, keep, numberIn, keptSet, kept01, keptSmccc, valueIn}
 use Rattle.function.specs.declared.Function.{Function}
 use Rattle.decode_definition.specs.Decode.{callOf, callIn, decodeBy, decodeOf, decodeSmccc}
 use Rattle.encode_definition.specs.Encode.{inFour, wordsOf, encodeOf}
 use Rattle.encode_definition.proofs.Laws.{in-four}
 use Rattle.roundtrip.specs.Codec.{Registers}
-use Rattle.roundtrip.specs.Psci.{psci, Demand3Of01}
+use Rattle.roundtrip.specs.Document01.{document01, Demand3Of01}
 use Rattle.roundtrip.specs.Smccc.{smccc, Demand3OfSmccc}
 use Rattle.roundtrip.proofs.Demand3.{small, demand3}
 use Rattle.roundtrip.proofs.Rows.{WritesBackAs, FitsLook, row-law}
@@ -36,33 +36,33 @@ CallAt f n a b c = callOf f (valueIn (ruleOf n .fields) (n ∷ a ∷ b ∷ c ∷
 module _ (protect : Part) where
   -- what is so of the answer of each of the 35 rows and the words it is of, is so of what a register set is decoded to and the words kept of it
   module _ (So : Answer Function → List ℕ → Type 0) (each : (f : FunctionId) (a b c : ℕ) →
-      FitsLook (lookBy protect (functionNumber f) 1) a → FitsLook (lookBy protect (functionNumber f) 2) b → FitsLook (lookBy protect (functionNumber f) 3) c →
+      FitsLook (lookOfNumber protect (functionNumber f) 1) a → FitsLook (lookOfNumber protect (functionNumber f) 2) b → FitsLook (lookOfNumber protect (functionNumber f) 3) c →
       So (CallAt f (functionNumber f) a b c) (functionNumber f ∷ a ∷ b ∷ c ∷ [])) where
     number-law : (f : FunctionId) (n a b c : ℕ) → functionNumber f ≡ n →
-        FitsLook (lookBy protect n 1) a → FitsLook (lookBy protect n 2) b → FitsLook (lookBy protect n 3) c → So (CallAt f n a b c) (n ∷ a ∷ b ∷ c ∷ [])
+        FitsLook (lookOfNumber protect n 1) a → FitsLook (lookOfNumber protect n 2) b → FitsLook (lookOfNumber protect n 3) c → So (CallAt f n a b c) (n ∷ a ∷ b ∷ c ∷ [])
     number-law f n a b c e =
-        subst (λ (m : ℕ). FitsLook (lookBy protect m 1) a → FitsLook (lookBy protect m 2) b → FitsLook (lookBy protect m 3) c → So (CallAt f m a b c) (m ∷ a ∷ b ∷ c ∷ [])) e
+        subst (λ (m : ℕ). FitsLook (lookOfNumber protect m 1) a → FitsLook (lookOfNumber protect m 2) b → FitsLook (lookOfNumber protect m 3) c → So (CallAt f m a b c) (m ∷ a ∷ b ∷ c ∷ [])) e
         (each f a b c)
 
-    pub by-rows : (r : List ℕ) (f : Function) → Registers r → decodeBy protect r ≡ accepted f → So (accepted f) (keptBy (lookBy protect) r)
+    pub by-rows : (r : List ℕ) (f : Function) → Registers r → decodeBy protect r ≡ accepted f → So (accepted f) (keptSet (lookOfNumber protect) r)
     unfolding decodeBy callIn
     by-rows r f h d =
-        let kept = keptBy (lookBy protect) r in
+        let kept = keptSet (lookOfNumber protect) r in
         let o = came-then (readFunctionId (numberIn r)) (λ id. callOf id (valueIn (ruleOf (numberIn r) .fields) kept)) f d in
         subst (λ (x : Answer Function). So x kept) (o .1 .1)
-        (number-law (o .0) (numberIn r) _ _ _ (function-number (numberIn r) (o .0) (o .1 .0)) (fit (lookBy protect (numberIn r) 1) (getD r 1 0) (h .fits 1))
-        (fit (lookBy protect (numberIn r) 2) (getD r 2 0) (h .fits 2)) (fit (lookBy protect (numberIn r) 3) (getD r 3 0) (h .fits 3)))
+        (number-law (o .0) (numberIn r) _ _ _ (function-number (numberIn r) (o .0) (o .1 .0)) (fit (lookOfNumber protect (numberIn r) 1) (getD r 1 0) (h .fits 1))
+        (fit (lookOfNumber protect (numberIn r) 2) (getD r 2 0) (h .fits 2)) (fit (lookOfNumber protect (numberIn r) 3) (getD r 3 0) (h .fits 3)))
 
-  writes : (r : List ℕ) (f : Function) → Registers r → decodeBy protect r ≡ accepted f → wordsOf f ≡ accepted (keptBy (lookBy protect) r)
+  writes : (r : List ℕ) (f : Function) → Registers r → decodeBy protect r ≡ accepted f → wordsOf f ≡ accepted (keptSet (lookOfNumber protect) r)
   writes r f h d = by-rows WritesBackAs (row-law protect) r f h d
 
   written-by : (r : List ℕ) (f : Function) (run : List ℕ) → Registers r → length run ≡ 4 → decodeBy protect r ≡ accepted f →
-      encodeOf f run ≡ accepted (keptBy (lookBy protect) r)
+      encodeOf f run ≡ accepted (keptSet (lookOfNumber protect) r)
   written-by r f run h l d =
-      let four : inFour (wordsOf f) run ≡ accepted (keptBy (lookBy protect) r) = simp (eq-eqb (length run) 4 l) (writes r f h d) in in-four f run ∙ four
+      let four : inFour (wordsOf f) run ≡ accepted (keptSet (lookOfNumber protect) r) = simp (eq-eqb (length run) 4 l) (writes r f h d) in in-four f run ∙ four
 
 -- an accepted set's call is written as the kept words, into any lent run of four
-pub written : (r : List ℕ) (f : Function) (run : List ℕ) → Registers r → length run ≡ 4 → decodeOf r ≡ accepted f → encodeOf f run ≡ accepted (kept r)
+pub written : (r : List ℕ) (f : Function) (run : List ℕ) → Registers r → length run ≡ 4 → decodeOf r ≡ accepted f → encodeOf f run ≡ accepted (kept01 r)
 unfolding decodeOf
 written r f run h l d = written-by whole r f run h l d
 
@@ -71,7 +71,7 @@ pub written-smccc : (r : List ℕ) (f : Function) (run : List ℕ) → Registers
 unfolding decodeSmccc
 written-smccc r f run h l d = written-by lowHalf r f run h l d
 
-decodes : (r : List ℕ) → decodeOf r ≡ callIn (kept r)
+decodes : (r : List ℕ) → decodeOf r ≡ callIn (kept01 r)
 unfolding decodeOf decodeBy
 decodes r = refl
 
@@ -80,7 +80,7 @@ unfolding decodeSmccc decodeBy
 decodes-smccc r = refl
 
 pub demand3-of-01 : Demand3Of01
-demand3-of-01 = demand3 psci (record { call = callIn; decodes = decodes; writes = written })
+demand3-of-01 = demand3 document01 (record { call = callIn; decodes = decodes; writes = written })
 
 pub demand3-of-smccc : Demand3OfSmccc
 demand3-of-smccc = demand3 smccc (record { call = callIn; decodes = decodes-smccc; writes = written-smccc })

@@ -1,8 +1,8 @@
--- `decode::core_calls::cpu_on` meets its contract.
+-- `decode::calls::cpu_on` meets its contract.
 -- Assumes nothing.
 use borrow.Author.Needs.{needs}
-use Rattle.decode.proofs.core_calls.cpu_on.Statement.{statement}
-use Rattle.decode.proofs.core_calls.cpu_on.Tie as tie
+use Rattle.decode.proofs.calls.cpu_on.Statement.{statement}
+use Rattle.decode.proofs.calls.cpu_on.Tie as tie
 
 pub cpu-on-spec : {M : Type 1} → statement M
 cpu-on-spec =

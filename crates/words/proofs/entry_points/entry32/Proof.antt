@@ -1,7 +1,0 @@
--- `words::entry_points::entry32` meets its contract. Assumes nothing.
-use mathlib.Core.Path.{refl}
-use Rattle.words.proofs.entry_points.entry32.Statement.{statement}
-use Rattle.words.proofs.entry_points.entry32.Tie as tie
-
-pub entry32-spec : {M : Type 1} → statement M
-entry32-spec = tie.close (tie.spec (λ c. refl))
