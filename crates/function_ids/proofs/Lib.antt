@@ -1,2 +1,3 @@
 pub mod CallTableLaws
 pub mod FunctionIdLaws
+pub mod FunctionIndexLaws

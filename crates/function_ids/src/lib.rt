@@ -1,6 +1,10 @@
-// The 35 function numbers: the enum FunctionId, its reader and its writer. The table of calls is a definition alone (specs/CallTable.antt).
+// The 35 function numbers: the enum FunctionId, its reader and its writer, and their rising order (indexes.rt). The table of calls is a definition
+// alone (specs/CallTable.antt).
 ghost use mathlib.Core.Path.{_≡_};
 ghost use Rattle.function_ids.specs.FunctionIds.{functionNumber, readFunctionId, functionIdAnswer};
+
+mod indexes;
+
 use answers::Error;
 
 // The function numbers, DEN0022 5.1, in rising order of their low half.
