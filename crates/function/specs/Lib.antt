@@ -1,2 +1,4 @@
 pub mod Forms
 pub mod Functions
+pub mod NamedCores
+pub mod NamedCoresLaws

@@ -1,13 +1,15 @@
-// The typed call: the enum Function and its function number.
+// The typed call: the enum Function, its function number, and the cores that it names (named_cores.rt).
 ghost use mathlib.Core.Path.{_≡_};
 ghost use Rattle.function_ids.specs.FunctionIds.{functionIdAnswer};
 ghost use Rattle.function.specs.Functions.{functionIdOf};
 
 pub mod forms;
+mod named_cores;
 
 use answers::Error;
 use function_ids::FunctionId;
 use function_ids::FunctionIdResult;
+pub use named_cores::NamedCores;
 use words::Cookie;
 use words::EntryPoint;
 use words::MemProtectRange;
