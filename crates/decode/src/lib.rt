@@ -6,9 +6,9 @@ ghost use Rattle.decode_definition.specs.Decode.{decodeOf, decodeSmccc};
 pub mod calls;
 pub mod registers;
 
-use answers::Error;
 use crate::registers::low_half_for_protect;
 use crate::registers::number_in;
+use answers::Error;
 use function::Function;
 use function::FunctionResult;
 use function_ids::FunctionId;
@@ -88,10 +88,7 @@ pub fn decode(regs: [u64; 4]) -> FunctionResult
             Mpidr::try_from_u32(low1),
             low2,
         ),
-        FunctionId::NODE_HW_STATE_64 => return calls::node_hw_state(
-            Mpidr::try_from_u64(r1),
-            low2,
-        ),
+        FunctionId::NODE_HW_STATE_64 => return calls::node_hw_state(Mpidr::try_from_u64(r1), low2),
         FunctionId::SYSTEM_SUSPEND_32 => return FunctionResult::Ok(Function::SystemSuspend {
             entry: EntryPoint::entry32(low1, low2),
         }),

@@ -61,7 +61,11 @@ pub fn argument_words(function: Function) -> ArgumentsResult
             0,
         ),
         Function::MemProtect { enabled } => three(flag_word(enabled), 0, 0),
-        Function::MemProtectCheckRange { range } => three(range.base_word(), range.length_word(), 0),
+        Function::MemProtectCheckRange { range } => three(
+            range.base_word(),
+            range.length_word(),
+            0,
+        ),
         Function::Features { psci_func_id } => three(psci_func_id.to_u32() as u64, 0, 0),
         Function::CpuFreeze => three(0, 0, 0),
         Function::CpuDefaultSuspend { entry } => three(

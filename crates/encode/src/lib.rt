@@ -11,10 +11,10 @@ ghost use Rattle.encode.specs.ArgumentAnswers.{argumentsAnswer};
 
 pub mod arguments;
 
-use answers::Error;
 use crate::arguments::Arguments;
 use crate::arguments::ArgumentsResult;
 use crate::arguments::argument_words;
+use answers::Error;
 use function::Function;
 use function_ids::FunctionId;
 use function_ids::FunctionIdResult;

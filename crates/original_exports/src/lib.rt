@@ -12,14 +12,14 @@ ghost use Rattle.original_exports.specs.OriginalAsked.{encodeOriginalWor
 pub mod original_asked;
 pub mod original_words;
 
+use crate::original_asked::OriginalAsked;
+use crate::original_asked::original_asked;
+use crate::original_words::original_words;
 use answers::told::Refusal;
 use answers::told::accepted_words;
 use answers::told::refusal_of;
 use call_exports::store;
 use call_exports::told_words;
-use crate::original_asked::OriginalAsked;
-use crate::original_asked::original_asked;
-use crate::original_words::original_words;
 use original_calls::OriginalFunctionResult;
 use original_calls::decode_original;
 use original_calls::encode_original;
