@@ -77,7 +77,7 @@ enum psci_refusal_number {
     PSCI_INVALID_POWER_LEVEL = 27,             /* the level, which is above 3: in the original format alone, in the place of 15 */
     PSCI_INVALID_VENDOR_TYPE = 31,             /* the vendor's reset type, which is above 0x7fffffff */
     PSCI_UNKNOWN_TAG = 1002,                   /* the tag */
-    PSCI_WRONG_PART = 1003,                    /* 0: a part that has no room in its place, or is not 0 where there is none */
+    PSCI_WRONG_PART = 1003,                    /* 0: a part that has no room in its place, is no feature's number, or is not 0 where there is none */
 
     /* line */
     PSCI_BAD_NUMBER = 24                       /* the record number, which is above PSCI_LAST_RECORD */
@@ -126,7 +126,7 @@ enum psci_part {
     PSCI_SYSTEM_RESET2_COOKIE = 3,          /* cookie */
     PSCI_MEM_PROTECT_ENABLED = 1,           /* one word, 0 or 1 */
     PSCI_MEM_PROTECT_CHECK_RANGE_RANGE = 1, /* range */
-    PSCI_FEATURES_FEATURE = 1,              /* feature */
+    PSCI_FEATURES_FEATURE = 1,              /* one word, one of PSCI_FUNCTION_.., or PSCI_FEATURE_SMCCC_VERSION */
     PSCI_CPU_DEFAULT_SUSPEND_ENTRY = 1,     /* entry */
     PSCI_NODE_HW_STATE_TARGET_CPU = 1,      /* MPIDR */
     PSCI_NODE_HW_STATE_LEVEL = 6,           /* one word of 32 bits */
@@ -171,50 +171,48 @@ enum psci_part {
     PSCI_RANGE_LENGTH = 2,
 
     PSCI_RESET_VENDOR = 0, /* 0 the architectural warm reset, and then the type is 0; 1 a vendor's */
-    PSCI_RESET_TYPE = 1,   /* 0x7fffffff at most: bit 31 of the word, which marks a vendor's and which encode sets, is no part of it */
-
-    PSCI_FEATURE_SMCCC = 0, /* 1: the SMCCC version is asked for, and then the place is 0 */
-    PSCI_FEATURE_PLACE = 1  /* one of enum psci_place */
+    PSCI_RESET_TYPE = 1    /* 0x7fffffff at most: bit 31 of the word, which marks a vendor's and which encode sets, is no part of it */
 };
 
-/* The functions that a feature can be, by their places; beside each its number. */
-enum psci_place {
-    PSCI_PLACE_PSCI_VERSION = 0,                /* 0x84000000 */
-    PSCI_PLACE_CPU_SUSPEND_32 = 1,              /* 0x84000001 */
-    PSCI_PLACE_CPU_SUSPEND_64 = 2,              /* 0xc4000001 */
-    PSCI_PLACE_CPU_OFF = 3,                     /* 0x84000002 */
-    PSCI_PLACE_CPU_ON_32 = 4,                   /* 0x84000003 */
-    PSCI_PLACE_CPU_ON_64 = 5,                   /* 0xc4000003 */
-    PSCI_PLACE_AFFINITY_INFO_32 = 6,            /* 0x84000004 */
-    PSCI_PLACE_AFFINITY_INFO_64 = 7,            /* 0xc4000004 */
-    PSCI_PLACE_MIGRATE_32 = 8,                  /* 0x84000005 */
-    PSCI_PLACE_MIGRATE_64 = 9,                  /* 0xc4000005 */
-    PSCI_PLACE_MIGRATE_INFO_TYPE = 10,          /* 0x84000006 */
-    PSCI_PLACE_MIGRATE_INFO_UP_CPU_32 = 11,     /* 0x84000007 */
-    PSCI_PLACE_MIGRATE_INFO_UP_CPU_64 = 12,     /* 0xc4000007 */
-    PSCI_PLACE_SYSTEM_OFF = 13,                 /* 0x84000008 */
-    PSCI_PLACE_SYSTEM_RESET = 14,               /* 0x84000009 */
-    PSCI_PLACE_PSCI_FEATURES = 15,              /* 0x8400000a */
-    PSCI_PLACE_CPU_FREEZE = 16,                 /* 0x8400000b */
-    PSCI_PLACE_CPU_DEFAULT_SUSPEND_32 = 17,     /* 0x8400000c */
-    PSCI_PLACE_CPU_DEFAULT_SUSPEND_64 = 18,     /* 0xc400000c */
-    PSCI_PLACE_NODE_HW_STATE_32 = 19,           /* 0x8400000d */
-    PSCI_PLACE_NODE_HW_STATE_64 = 20,           /* 0xc400000d */
-    PSCI_PLACE_SYSTEM_SUSPEND_32 = 21,          /* 0x8400000e */
-    PSCI_PLACE_SYSTEM_SUSPEND_64 = 22,          /* 0xc400000e */
-    PSCI_PLACE_PSCI_SET_SUSPEND_MODE = 23,      /* 0x8400000f */
-    PSCI_PLACE_PSCI_STAT_RESIDENCY_32 = 24,     /* 0x84000010 */
-    PSCI_PLACE_PSCI_STAT_RESIDENCY_64 = 25,     /* 0xc4000010 */
-    PSCI_PLACE_PSCI_STAT_COUNT_32 = 26,         /* 0x84000011 */
-    PSCI_PLACE_PSCI_STAT_COUNT_64 = 27,         /* 0xc4000011 */
-    PSCI_PLACE_SYSTEM_RESET2_32 = 28,           /* 0x84000012 */
-    PSCI_PLACE_SYSTEM_RESET2_64 = 29,           /* 0xc4000012 */
-    PSCI_PLACE_MEM_PROTECT = 30,                /* 0x84000013 */
-    PSCI_PLACE_MEM_PROTECT_CHECK_RANGE_32 = 31, /* 0x84000014 */
-    PSCI_PLACE_MEM_PROTECT_CHECK_RANGE_64 = 32, /* 0xc4000014 */
-    PSCI_PLACE_SYSTEM_OFF2_32 = 33,             /* 0x84000015 */
-    PSCI_PLACE_SYSTEM_OFF2_64 = 34              /* 0xc4000015 */
-};
+/* The functions by their numbers, document 01's: the low half of r0, the first of a call's four words, and what a feature can be. */
+#define PSCI_FUNCTION_PSCI_VERSION               0x84000000
+#define PSCI_FUNCTION_CPU_SUSPEND_32             0x84000001
+#define PSCI_FUNCTION_CPU_SUSPEND_64             0xc4000001
+#define PSCI_FUNCTION_CPU_OFF                    0x84000002
+#define PSCI_FUNCTION_CPU_ON_32                  0x84000003
+#define PSCI_FUNCTION_CPU_ON_64                  0xc4000003
+#define PSCI_FUNCTION_AFFINITY_INFO_32           0x84000004
+#define PSCI_FUNCTION_AFFINITY_INFO_64           0xc4000004
+#define PSCI_FUNCTION_MIGRATE_32                 0x84000005
+#define PSCI_FUNCTION_MIGRATE_64                 0xc4000005
+#define PSCI_FUNCTION_MIGRATE_INFO_TYPE          0x84000006
+#define PSCI_FUNCTION_MIGRATE_INFO_UP_CPU_32     0x84000007
+#define PSCI_FUNCTION_MIGRATE_INFO_UP_CPU_64     0xc4000007
+#define PSCI_FUNCTION_SYSTEM_OFF                 0x84000008
+#define PSCI_FUNCTION_SYSTEM_RESET               0x84000009
+#define PSCI_FUNCTION_PSCI_FEATURES              0x8400000a
+#define PSCI_FUNCTION_CPU_FREEZE                 0x8400000b
+#define PSCI_FUNCTION_CPU_DEFAULT_SUSPEND_32     0x8400000c
+#define PSCI_FUNCTION_CPU_DEFAULT_SUSPEND_64     0xc400000c
+#define PSCI_FUNCTION_NODE_HW_STATE_32           0x8400000d
+#define PSCI_FUNCTION_NODE_HW_STATE_64           0xc400000d
+#define PSCI_FUNCTION_SYSTEM_SUSPEND_32          0x8400000e
+#define PSCI_FUNCTION_SYSTEM_SUSPEND_64          0xc400000e
+#define PSCI_FUNCTION_PSCI_SET_SUSPEND_MODE      0x8400000f
+#define PSCI_FUNCTION_PSCI_STAT_RESIDENCY_32     0x84000010
+#define PSCI_FUNCTION_PSCI_STAT_RESIDENCY_64     0xc4000010
+#define PSCI_FUNCTION_PSCI_STAT_COUNT_32         0x84000011
+#define PSCI_FUNCTION_PSCI_STAT_COUNT_64         0xc4000011
+#define PSCI_FUNCTION_SYSTEM_RESET2_32           0x84000012
+#define PSCI_FUNCTION_SYSTEM_RESET2_64           0xc4000012
+#define PSCI_FUNCTION_MEM_PROTECT                0x84000013
+#define PSCI_FUNCTION_MEM_PROTECT_CHECK_RANGE_32 0x84000014
+#define PSCI_FUNCTION_MEM_PROTECT_CHECK_RANGE_64 0xc4000014
+#define PSCI_FUNCTION_SYSTEM_OFF2_32             0x84000015
+#define PSCI_FUNCTION_SYSTEM_OFF2_64             0xc4000015
+
+/* The one feature that is no function. */
+#define PSCI_FEATURE_SMCCC_VERSION 0x80000000
 
 /* The call that the four registers make. Accepted: all nine words of call are written. Refused, 1 to 8: call is left as it was. */
 struct psci_refusal psci_decode(const uint64_t regs[PSCI_REGISTERS], uint64_t call[PSCI_CALL_WORDS]);

@@ -1,5 +1,5 @@
 /* names: every name of psci.h, on values put down from document 01, for refusal 31, memory protect by Change 2 and the original format from document
- * 02: each call by its tag and parts, each function by its place, each refusal. Prints how many cases there were; a case that fails is named on
+ * 02: each call by its tag and parts, each feature by its number, each refusal. Prints how many cases there were; a case that fails is named on
  * standard error. In C11 and in C++11. */
 #include <inttypes.h>
 #include <stdio.h>
@@ -74,7 +74,7 @@ static const struct example calls[] = {
      {{PSCI_MEM_PROTECT_CHECK_RANGE_RANGE + PSCI_RANGE_FORM, 1},
       {PSCI_MEM_PROTECT_CHECK_RANGE_RANGE + PSCI_RANGE_BASE, 0xffff000000000001},
       {PSCI_MEM_PROTECT_CHECK_RANGE_RANGE + PSCI_RANGE_LENGTH, 0x2000}}},
-    {{0x8400000a, 0x80000000, 0, 0}, PSCI_TAG_FEATURES, {{PSCI_FEATURES_FEATURE + PSCI_FEATURE_SMCCC, 1}}},
+    {{0x8400000a, 0x80000000, 0, 0}, PSCI_TAG_FEATURES, {{PSCI_FEATURES_FEATURE, 0x80000000}}},
     {{0x8400000b, 0, 0, 0}, PSCI_TAG_CPU_FREEZE, {{0, 0}}},
     {{0x8400000c, 0x80000, 9, 0},
      PSCI_TAG_CPU_DEFAULT_SUSPEND,
@@ -128,29 +128,47 @@ static const struct example originals[] = {
       {PSCI_STAT_COUNT_STATE + PSCI_ORIGINAL_STATE_LEVEL, 1}}},
 };
 
-/* A function that can be asked about: its number and its place. */
+/* A feature: its number, and the header's name for it. */
 static const struct {
     uint64_t number;
-    uint64_t place;
-} functions[] = {
-    {0x84000000, PSCI_PLACE_PSCI_VERSION},          {0x84000001, PSCI_PLACE_CPU_SUSPEND_32},
-    {0xc4000001, PSCI_PLACE_CPU_SUSPEND_64},        {0x84000002, PSCI_PLACE_CPU_OFF},
-    {0x84000003, PSCI_PLACE_CPU_ON_32},             {0xc4000003, PSCI_PLACE_CPU_ON_64},
-    {0x84000004, PSCI_PLACE_AFFINITY_INFO_32},      {0xc4000004, PSCI_PLACE_AFFINITY_INFO_64},
-    {0x84000005, PSCI_PLACE_MIGRATE_32},            {0xc4000005, PSCI_PLACE_MIGRATE_64},
-    {0x84000006, PSCI_PLACE_MIGRATE_INFO_TYPE},     {0x84000007, PSCI_PLACE_MIGRATE_INFO_UP_CPU_32},
-    {0xc4000007, PSCI_PLACE_MIGRATE_INFO_UP_CPU_64}, {0x84000008, PSCI_PLACE_SYSTEM_OFF},
-    {0x84000009, PSCI_PLACE_SYSTEM_RESET},          {0x8400000a, PSCI_PLACE_PSCI_FEATURES},
-    {0x8400000b, PSCI_PLACE_CPU_FREEZE},            {0x8400000c, PSCI_PLACE_CPU_DEFAULT_SUSPEND_32},
-    {0xc400000c, PSCI_PLACE_CPU_DEFAULT_SUSPEND_64}, {0x8400000d, PSCI_PLACE_NODE_HW_STATE_32},
-    {0xc400000d, PSCI_PLACE_NODE_HW_STATE_64},      {0x8400000e, PSCI_PLACE_SYSTEM_SUSPEND_32},
-    {0xc400000e, PSCI_PLACE_SYSTEM_SUSPEND_64},     {0x8400000f, PSCI_PLACE_PSCI_SET_SUSPEND_MODE},
-    {0x84000010, PSCI_PLACE_PSCI_STAT_RESIDENCY_32}, {0xc4000010, PSCI_PLACE_PSCI_STAT_RESIDENCY_64},
-    {0x84000011, PSCI_PLACE_PSCI_STAT_COUNT_32},    {0xc4000011, PSCI_PLACE_PSCI_STAT_COUNT_64},
-    {0x84000012, PSCI_PLACE_SYSTEM_RESET2_32},      {0xc4000012, PSCI_PLACE_SYSTEM_RESET2_64},
-    {0x84000013, PSCI_PLACE_MEM_PROTECT},           {0x84000014, PSCI_PLACE_MEM_PROTECT_CHECK_RANGE_32},
-    {0xc4000014, PSCI_PLACE_MEM_PROTECT_CHECK_RANGE_64}, {0x84000015, PSCI_PLACE_SYSTEM_OFF2_32},
-    {0xc4000015, PSCI_PLACE_SYSTEM_OFF2_64},
+    uint64_t named;
+} features[] = {
+    {0x84000000, PSCI_FUNCTION_PSCI_VERSION},
+    {0x84000001, PSCI_FUNCTION_CPU_SUSPEND_32},
+    {0xc4000001, PSCI_FUNCTION_CPU_SUSPEND_64},
+    {0x84000002, PSCI_FUNCTION_CPU_OFF},
+    {0x84000003, PSCI_FUNCTION_CPU_ON_32},
+    {0xc4000003, PSCI_FUNCTION_CPU_ON_64},
+    {0x84000004, PSCI_FUNCTION_AFFINITY_INFO_32},
+    {0xc4000004, PSCI_FUNCTION_AFFINITY_INFO_64},
+    {0x84000005, PSCI_FUNCTION_MIGRATE_32},
+    {0xc4000005, PSCI_FUNCTION_MIGRATE_64},
+    {0x84000006, PSCI_FUNCTION_MIGRATE_INFO_TYPE},
+    {0x84000007, PSCI_FUNCTION_MIGRATE_INFO_UP_CPU_32},
+    {0xc4000007, PSCI_FUNCTION_MIGRATE_INFO_UP_CPU_64},
+    {0x84000008, PSCI_FUNCTION_SYSTEM_OFF},
+    {0x84000009, PSCI_FUNCTION_SYSTEM_RESET},
+    {0x8400000a, PSCI_FUNCTION_PSCI_FEATURES},
+    {0x8400000b, PSCI_FUNCTION_CPU_FREEZE},
+    {0x8400000c, PSCI_FUNCTION_CPU_DEFAULT_SUSPEND_32},
+    {0xc400000c, PSCI_FUNCTION_CPU_DEFAULT_SUSPEND_64},
+    {0x8400000d, PSCI_FUNCTION_NODE_HW_STATE_32},
+    {0xc400000d, PSCI_FUNCTION_NODE_HW_STATE_64},
+    {0x8400000e, PSCI_FUNCTION_SYSTEM_SUSPEND_32},
+    {0xc400000e, PSCI_FUNCTION_SYSTEM_SUSPEND_64},
+    {0x8400000f, PSCI_FUNCTION_PSCI_SET_SUSPEND_MODE},
+    {0x84000010, PSCI_FUNCTION_PSCI_STAT_RESIDENCY_32},
+    {0xc4000010, PSCI_FUNCTION_PSCI_STAT_RESIDENCY_64},
+    {0x84000011, PSCI_FUNCTION_PSCI_STAT_COUNT_32},
+    {0xc4000011, PSCI_FUNCTION_PSCI_STAT_COUNT_64},
+    {0x84000012, PSCI_FUNCTION_SYSTEM_RESET2_32},
+    {0xc4000012, PSCI_FUNCTION_SYSTEM_RESET2_64},
+    {0x84000013, PSCI_FUNCTION_MEM_PROTECT},
+    {0x84000014, PSCI_FUNCTION_MEM_PROTECT_CHECK_RANGE_32},
+    {0xc4000014, PSCI_FUNCTION_MEM_PROTECT_CHECK_RANGE_64},
+    {0x84000015, PSCI_FUNCTION_SYSTEM_OFF2_32},
+    {0xc4000015, PSCI_FUNCTION_SYSTEM_OFF2_64},
+    {0x80000000, PSCI_FEATURE_SMCCC_VERSION},
 };
 
 /* Registers that are refused: the number and what it carries. */
@@ -178,6 +196,8 @@ static const struct {
     {{PSCI_TAG_SYSTEM_RESET2, 1, 0x80000000, 0, 0, 0, 0, 0, 0}, PSCI_INVALID_VENDOR_TYPE, 0x80000000},
     {{PSCI_TAG_STAT_COUNT + 1, 0, 0, 0, 0, 0, 0, 0, 0}, PSCI_UNKNOWN_TAG, 22},
     {{PSCI_TAG_MEM_PROTECT, 2, 0, 0, 0, 0, 0, 0, 0}, PSCI_WRONG_PART, 0},
+    {{PSCI_TAG_FEATURES, 0x84000016, 0, 0, 0, 0, 0, 0, 0}, PSCI_WRONG_PART, 0},
+    {{PSCI_TAG_FEATURES, 0x184000000, 0, 0, 0, 0, 0, 0, 0}, PSCI_WRONG_PART, 0},
     {{PSCI_TAG_CPU_OFF, 0, 0, 0, 0, 0, 0, 0, 1}, PSCI_WRONG_PART, 0},
 };
 
@@ -275,12 +295,12 @@ int main(void) {
         lay_out(&originals[i], call);
         check(same_original(originals[i].regs, call), "call of the original format", originals[i].regs[0]);
     }
-    for (size_t i = 0; i < COUNT(functions); i++) {
-        const uint64_t regs[PSCI_REGISTERS] = {0x8400000a, functions[i].number, 0, 0};
+    for (size_t i = 0; i < COUNT(features); i++) {
+        const uint64_t regs[PSCI_REGISTERS] = {0x8400000a, features[i].number, 0, 0};
         memset(call, 0, sizeof call);
         call[0] = PSCI_TAG_FEATURES;
-        call[PSCI_FEATURES_FEATURE + PSCI_FEATURE_PLACE] = functions[i].place;
-        check(same(regs, call), "function", functions[i].number);
+        call[PSCI_FEATURES_FEATURE] = features[i].named;
+        check(same(regs, call), "feature", features[i].number);
     }
     for (size_t i = 0; i < COUNT(refused); i++) {
         check(is(psci_decode(refused[i].regs, call), refused[i].number, refused[i].carried), "refusal", refused[i].number);

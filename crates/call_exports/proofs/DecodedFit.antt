@@ -18,8 +18,8 @@ use Rattle.function_ids.specs.CallTable.{Part, lowHalf, whole, ruleOf, lookOfNu
 use Rattle.words.specs.Flags.{flagWord}
 use Rattle.words.specs.Mpidrs.{mpidr32, mpidr64, fields32, fields64, readMpidr32, readMpidr64}
 use Rattle.words.specs.PowerStates.{powerStateFields, stateIdField, powerDownField, readPowerState}
-use Rattle.words.specs.PsciFeatures.{readFeature}
-use Rattle.words.specs.SuspendModes.{readSuspendMode}
+use Rattle.words.specs.PsciFeatures.{featureNumber, readFeature}
+use Rattle.words.specs.SuspendModes.{suspendModeNumber, readSuspendMode}
 use Rattle.words.specs.SystemOff2Types.{readSystemOff2Type}
 use Rattle.words.specs.ResetTypes.{vendorField, vendorTypeField, readArchitecturalResetType, readResetType}
 use Rattle.words.specs.declared.mpidrs.Mpidr.{Mpidr}
@@ -40,9 +40,8 @@ use Rattle.decode_definition.specs.Decode.{callOf, decodeBy, decodeOf, decodeSm
 use Rattle.roundtrip.specs.Codec.{Registers}
 use Rattle.roundtrip.proofs.TwoCodecs.{by-rows}
 use Rattle.roundtrip.proofs.Rows.{FitsLook, mpidrAt}
-use Rattle.call_exports.specs.Parts.{_within_, Fit, mpidrParts, powerStateParts, entryParts, cookieParts, resetTypeParts, featureParts}
+use Rattle.call_exports.specs.Parts.{_within_, Fit, mpidrParts, powerStateParts, entryParts, cookieParts, resetTypeParts}
 use Rattle.call_exports.specs.CallWords.{callParts}
-use Rattle.call_exports.specs.Places.{functionPlace, modePlace}
 use Rattle.call_exports.proofs.OwnParts.{both-fit}
 
 -- ---- a field as it was read
@@ -71,11 +70,11 @@ reset-type-fits word t e =
     (λ v q. subst (λ (x : ResetType). Fit (resetTypeParts x)) q (lit< tt, (omega arith, tt)))
     (λ a p q. subst (λ (x : ResetType). Fit (resetTypeParts x)) q (lit< tt, (lit< tt, tt)))
 
-pub feature-fits : (f : PsciFeature) → Fit (featureParts f)
-feature-fits (PsciFunction f) = (lit< tt, (ltb-true _ _ (every-function (λ (g : FunctionId). ltb (functionPlace g) (2 ^ 6)) refl f), tt))
-feature-fits SmcccVersion = (lit< tt, (lit< tt, tt))
+pub feature-fits : (f : PsciFeature) → featureNumber f < 2 ^ 32
+feature-fits (PsciFunction f) = ltb-true _ _ (every-function (λ (g : FunctionId). ltb (functionNumber g) (2 ^ 32)) refl f)
+feature-fits SmcccVersion = lit< tt
 
-pub mode-fits : (m : SuspendMode) → modePlace m < 2 ^ 1
+pub mode-fits : (m : SuspendMode) → suspendModeNumber m < 2 ^ 1
 mode-fits PlatformCoordinated = lit< tt
 mode-fits OsInitiated = lit< tt
 
@@ -130,7 +129,7 @@ fit-row protect id.MigrateInfoUpCpu32 a b c p q s = (lit< tt, (lit< tt, tt))
 fit-row protect id.MigrateInfoUpCpu64 a b c p q s = (lit< tt, (lit< tt, tt))
 fit-row protect id.SystemOff a b c p q s = (lit< tt, tt)
 fit-row protect id.SystemReset a b c p q s = (lit< tt, tt)
-fit-row protect id.PsciFeatures a b c p q s = read-fits _ (readFeature a) (λ x e. (lit< tt, feature-fits x))
+fit-row protect id.PsciFeatures a b c p q s = read-fits _ (readFeature a) (λ x e. (lit< tt, (feature-fits x, tt)))
 fit-row protect id.CpuFreeze a b c p q s = (lit< tt, tt)
 fit-row protect id.CpuDefaultSuspend32 a b c p q s = (lit< tt, (lit< tt, (p, (q, tt))))
 fit-row protect id.CpuDefaultSuspend64 a b c p q s = (lit< tt, (lit< tt, (p, (q, tt))))

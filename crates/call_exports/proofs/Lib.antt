@@ -4,5 +4,4 @@ pub mod ExportLaws
 pub mod NineWords
 pub mod OwnParts
 pub mod OwnWords
-pub mod PickLaws
 pub mod SameWords

@@ -1,19 +1,17 @@
 -- The value of the parts of a value is that value, where each part fits its place. Assumes nothing.
-use mathlib.Core.Path.{_≡_, refl, ap, ap₂}
+use mathlib.Core.Path.{_≡_, refl, ap, ap₂, _∙_}
 use mathlib.Core.Bool.{Bool, true, false, not}
 use mathlib.Core.List.{List, [], _∷_, _++_}
 use Prim.Native.Nat.{ℕ, _^_, _<_}
 use native.Mathlib.Nat.{mod-eq-of-lt}
 use lib.Dec.{eqb}
-use borrow.Author.Tests.{eqb-true}
-use Rattle.function_ids.specs.FunctionIds.{functionNumber}
-use Rattle.function_ids.specs.declared.FunctionId.{FunctionId}
-use Rattle.function_ids.proofs.FunctionIdLaws.{same-number, every-function}
 use Rattle.words.specs.Flags.{flagWord}
 use Rattle.words.specs.Mpidrs.{aff3Number}
 use Rattle.words.specs.EntryPoints.{entryAddress, entryContext}
 use Rattle.words.specs.Cookies.{cookieWord}
 use Rattle.words.specs.MemProtectRanges.{baseWord, lengthWord}
+use Rattle.words.specs.PsciFeatures.{featureNumber, readFeature}
+use Rattle.words.specs.SuspendModes.{suspendModeNumber}
 use Rattle.words.specs.declared.mpidrs.Aff3.{Aff3}
 use Rattle.words.specs.declared.mpidrs.Aff3.the-variants.{None, Some}
 use Rattle.words.specs.declared.mpidrs.Mpidr.{Mpidr}
@@ -29,14 +27,14 @@ use Rattle.words.specs.declared.entry_points.EntryPoint.the-variants.{Entry32, 
 use Rattle.words.specs.declared.mem_protect_ranges.MemProtectRange.{MemProtectRange}
 use Rattle.words.specs.declared.mem_protect_ranges.MemProtectRange.the-variants.{Range32, Range64}
 use Rattle.words.specs.declared.psci_features.PsciFeature.{PsciFeature}
-use Rattle.words.specs.declared.psci_features.PsciFeature.the-variants.{PsciFunction, SmcccVersion}
+use Rattle.words.specs.declared.psci_features.PsciFeature.the-variants.{SmcccVersion}
 use Rattle.words.specs.declared.suspend_modes.SuspendMode.{SuspendMode}
 use Rattle.words.specs.declared.suspend_modes.SuspendMode.the-variants.{PlatformCoordinated, OsInitiated}
+use Rattle.words.proofs.WordLaws.{word-laws}
 use Rattle.function.specs.Forms.{mpidrForm, entryForm, cookieForm, rangeForm}
 use Rattle.call_exports.specs.PlainWords.{low, byte}
-use Rattle.call_exports.specs.Parts.{CallPart, _within_, Fit, valuesOf, formPart, downPart, stateId, vendorPart, vendorType, smcccPart, featurePlace, mpidrParts, powerStateParts, entryParts, cookieParts, rangeParts, resetTypeParts}
-use Rattle.call_exports.specs.FromParts.{either, mpidrIn, powerStateIn, entryIn, cookieIn, rangeIn, resetTypeIn, featureIn, modeIn}
-use Rattle.call_exports.specs.Places.{functionPlace, functionAt, modePlace}
+use Rattle.call_exports.specs.Parts.{CallPart, _within_, Fit, valuesOf, formPart, downPart, stateId, vendorPart, vendorType, mpidrParts, powerStateParts, entryParts, cookieParts, rangeParts, resetTypeParts}
+use Rattle.call_exports.specs.FromParts.{either, acceptedOr, mpidrIn, powerStateIn, entryIn, cookieIn, rangeIn, resetTypeIn, featureIn, modeIn}
 
 -- parts, and others behind them, fit where both do
 pub first-fit : (ps qs : List CallPart) → Fit (ps ++ qs) → Fit ps
@@ -86,7 +84,7 @@ reset-type-own (VendorSpecific word) h = ap VendorSpecific (mod-eq-of-lt (h .1 .
 pub level-own : (level : ℕ) → Fit (level within 32 ∷ []) → low level ≡ level
 level-own level h = mod-eq-of-lt (h .0)
 
-pub mode-own : (m : SuspendMode) → modeIn (modePlace m) ≡ m
+pub mode-own : (m : SuspendMode) → modeIn (suspendModeNumber m) ≡ m
 mode-own PlatformCoordinated = refl
 mode-own OsInitiated = refl
 
@@ -94,12 +92,5 @@ pub flag-own : (b : Bool) → not (eqb (flagWord b) 0) ≡ b
 flag-own true = refl
 flag-own false = refl
 
--- the function at the place of a function is that one, by its number
-place-own : (f : FunctionId) → functionAt (functionPlace f) ≡ f
-place-own f =
-    same-number (functionAt (functionPlace f)) f
-    (eqb-true _ _ (every-function (λ (g : FunctionId). eqb (functionNumber (functionAt (functionPlace g))) (functionNumber g)) refl f))
-
-pub feature-own : (f : PsciFeature) → featureIn (smcccPart f) (featurePlace f) ≡ f
-feature-own (PsciFunction f) = ap PsciFunction (place-own f)
-feature-own SmcccVersion = refl
+pub feature-own : (f : PsciFeature) → Fit (featureNumber f within 32 ∷ []) → featureIn (featureNumber f) ≡ f
+feature-own f h = ap (acceptedOr SmcccVersion) (ap readFeature (mod-eq-of-lt (h .0)) ∙ word-laws .feature-reads-back f (featureNumber f) tt refl)

@@ -31,7 +31,7 @@ found (call.SystemReset2 resetType cookie) h =
     ap accepted (of-both call.SystemReset2 (resetTypeParts resetType) (cookieParts cookie) (h .1) (reset-type-own resetType) (cookie-own cookie))
 found (call.MemProtect enabled) h = ap accepted (ap call.MemProtect (flag-own enabled))
 found (call.MemProtectCheckRange range) h = ap accepted (ap call.MemProtectCheckRange (range-own range (h .1)))
-found (call.Features feature) h = ap accepted (ap call.Features (feature-own feature))
+found (call.Features feature) h = ap accepted (ap call.Features (feature-own feature (h .1)))
 found call.CpuFreeze h = refl
 found (call.CpuDefaultSuspend entry) h = ap accepted (ap call.CpuDefaultSuspend (entry-own entry (h .1)))
 found (call.NodeHwState mpidr level) h = ap accepted (of-both call.NodeHwState (mpidrParts mpidr) (level within 32 ∷ []) (h .1) (mpidr-own mpidr) (level-own level))

@@ -40,7 +40,7 @@ calls c =
     ∷ 11 is (call.SystemReset2 (resetTypeIn (getD c 1 0) (getD c 2 0)) (cookieIn (getD c 3 0) (getD c 4 0)))
     ∷ 12 is (call.MemProtect (not (eqb (getD c 1 0) 0)))
     ∷ 13 is (call.MemProtectCheckRange (rangeIn (getD c 1 0) (getD c 2 0) (getD c 3 0)))
-    ∷ 14 is (call.Features (featureIn (getD c 1 0) (getD c 2 0)))
+    ∷ 14 is (call.Features (featureIn (getD c 1 0)))
     ∷ 15 is call.CpuFreeze
     ∷ 16 is (call.CpuDefaultSuspend (entryIn (getD c 1 0) (getD c 2 0) (getD c 3 0)))
     ∷ 17 is (call.NodeHwState (mpidrIn c) (low (getD c 6 0)))

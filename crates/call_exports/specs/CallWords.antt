@@ -4,8 +4,9 @@ use Prim.Native.Nat.{ℕ}
 use Rattle.function.specs.declared.Function.{Function}
 use Rattle.function.specs.declared.Function.the-variants as call
 use Rattle.words.specs.Flags.{flagWord}
-use Rattle.call_exports.specs.Places.{modePlace}
-use Rattle.call_exports.specs.Parts.{CallPart, _within_, tag, valuesOf, nine, mpidrParts, powerStateParts, entryParts, cookieParts, rangeParts, resetTypeParts, featureParts}
+use Rattle.words.specs.PsciFeatures.{featureNumber}
+use Rattle.words.specs.SuspendModes.{suspendModeNumber}
+use Rattle.call_exports.specs.Parts.{CallPart, _within_, tag, valuesOf, nine, mpidrParts, powerStateParts, entryParts, cookieParts, rangeParts, resetTypeParts}
 
 -- the tag, which is the place in the enum Function; the parts of its fields in their order
 abbrev pub callParts : Function → List CallPart
@@ -23,12 +24,12 @@ callParts call.SystemReset = tag 10 ∷ []
 callParts (call.SystemReset2 resetType cookie) = tag 11 ∷ resetTypeParts resetType ++ cookieParts cookie
 callParts (call.MemProtect enabled) = tag 12 ∷ flagWord enabled within 1 ∷ []
 callParts (call.MemProtectCheckRange range) = tag 13 ∷ rangeParts range
-callParts (call.Features feature) = tag 14 ∷ featureParts feature
+callParts (call.Features feature) = tag 14 ∷ featureNumber feature within 32 ∷ []
 callParts call.CpuFreeze = tag 15 ∷ []
 callParts (call.CpuDefaultSuspend entry) = tag 16 ∷ entryParts entry
 callParts (call.NodeHwState mpidr level) = tag 17 ∷ mpidrParts mpidr ++ level within 32 ∷ []
 callParts (call.SystemSuspend entry) = tag 18 ∷ entryParts entry
-callParts (call.SetSuspendMode mode) = tag 19 ∷ modePlace mode within 1 ∷ []
+callParts (call.SetSuspendMode mode) = tag 19 ∷ suspendModeNumber mode within 1 ∷ []
 callParts (call.StatResidency mpidr state) = tag 20 ∷ mpidrParts mpidr ++ powerStateParts state
 callParts (call.StatCount mpidr state) = tag 21 ∷ mpidrParts mpidr ++ powerStateParts state
 

@@ -1,11 +1,13 @@
--- The value that parts stand for, each part cut to its place. Where a part has no room in its place, or a word past the parts is not zero, the value's own nine
--- words are others than those asked with: refusal 1003 of the exports.
+-- The value that parts stand for, each part cut to its place. Where a part has no room in its place, or is a number that no feature has, or a word past the
+-- parts is not zero, the value's own nine words are others than those asked with: refusal 1003 of the exports.
 use mathlib.Core.Bool.{cond}
 use mathlib.Core.List.{List}
 use Prim.Native.Nat.{ℕ}
 use lib.Dec.{eqb}
 use lib.ListN.{getD}
+use Rattle.answers.specs.Answers.{Answer, accepted, refused}
 use Rattle.words.specs.Mpidrs.{mpidrOf}
+use Rattle.words.specs.PsciFeatures.{readFeature}
 use Rattle.words.specs.declared.mpidrs.Aff3.the-variants.{None, Some}
 use Rattle.words.specs.declared.mpidrs.Mpidr.{Mpidr}
 use Rattle.words.specs.declared.power_states.PowerState.{PowerState}
@@ -20,10 +22,9 @@ use Rattle.words.specs.declared.entry_points.EntryPoint.the-variants.{Entry32, 
 use Rattle.words.specs.declared.mem_protect_ranges.MemProtectRange.{MemProtectRange}
 use Rattle.words.specs.declared.mem_protect_ranges.MemProtectRange.the-variants.{Range32, Range64}
 use Rattle.words.specs.declared.psci_features.PsciFeature.{PsciFeature}
-use Rattle.words.specs.declared.psci_features.PsciFeature.the-variants.{PsciFunction, SmcccVersion}
+use Rattle.words.specs.declared.psci_features.PsciFeature.the-variants.{SmcccVersion}
 use Rattle.words.specs.declared.suspend_modes.SuspendMode.{SuspendMode}
 use Rattle.words.specs.declared.suspend_modes.SuspendMode.the-variants.{PlatformCoordinated, OsInitiated}
-use Rattle.call_exports.specs.Places.{functionAt}
 use Rattle.call_exports.specs.PlainWords.{low, byte}
 
 -- 0 for the first of two things, any other number for the second
@@ -49,8 +50,14 @@ rangeIn form base extent = either form (Range32 (low base) (low extent)) (Range6
 abbrev pub resetTypeIn : ℕ → ℕ → ResetType
 resetTypeIn vendor word = either vendor (Architectural SystemWarmReset) (VendorSpecific (low word))
 
-abbrev pub featureIn : ℕ → ℕ → PsciFeature
-featureIn smccc place = either smccc (PsciFunction (functionAt place)) SmcccVersion
+-- what is accepted; for a refusal this one
+abbrev pub acceptedOr : {A : Type 0} → A → Answer A → A
+acceptedOr other (accepted a) = a
+acceptedOr other (refused number value) = other
+
+-- the feature of that number; where none has it, one whose number is another
+abbrev pub featureIn : ℕ → PsciFeature
+featureIn number = acceptedOr SmcccVersion (readFeature (low number))
 
 abbrev pub modeIn : ℕ → SuspendMode
-modeIn place = either place PlatformCoordinated OsInitiated
+modeIn number = either number PlatformCoordinated OsInitiated

@@ -4,5 +4,4 @@ pub mod Exports
 pub mod FromParts
 pub mod NineWords
 pub mod Parts
-pub mod Places
 pub mod PlainWords

@@ -13,10 +13,7 @@ use Rattle.words.specs.EntryPoints.{entryAddress, entryContext}
 use Rattle.words.specs.declared.cookies.Cookie.{Cookie}
 use Rattle.words.specs.declared.entry_points.EntryPoint.{EntryPoint}
 use Rattle.words.specs.declared.mem_protect_ranges.MemProtectRange.{MemProtectRange}
-use Rattle.words.specs.declared.psci_features.PsciFeature.{PsciFeature}
-use Rattle.words.specs.declared.psci_features.PsciFeature.the-variants.{PsciFunction, SmcccVersion}
 use Rattle.function.specs.Forms.{entryForm, cookieForm, rangeForm, mpidrForm}
-use Rattle.call_exports.specs.Places.{functionPlace}
 use Rattle.words.specs.Cookies.{cookieWord}
 use Rattle.words.specs.MemProtectRanges.{baseWord, lengthWord}
 
@@ -94,16 +91,3 @@ vendorType (VendorSpecific t) = t
 
 abbrev pub resetTypeParts : ResetType → List CallPart
 resetTypeParts t = vendorPart t within 1 ∷ vendorType t within 32 ∷ []
-
--- 1 for the SMCCC version; the function's place
-abbrev pub smcccPart : PsciFeature → ℕ
-smcccPart (PsciFunction f) = 0
-smcccPart SmcccVersion = 1
-
-abbrev pub featurePlace : PsciFeature → ℕ
-featurePlace (PsciFunction f) = functionPlace f
-featurePlace SmcccVersion = 0
-
--- 35 functions have places, which six bits hold
-abbrev pub featureParts : PsciFeature → List CallPart
-featureParts f = smcccPart f within 1 ∷ featurePlace f within 6 ∷ []

@@ -85,7 +85,7 @@ pub fn call_at(c: [u64; 9]) -> Asked
             range: range_in(p1, p2, p3),
         },
         14 => Function::Features {
-            psci_func_id: feature_in(p1, p2),
+            psci_func_id: feature_in(p1),
         },
         15 => Function::CpuFreeze,
         16 => Function::CpuDefaultSuspend {

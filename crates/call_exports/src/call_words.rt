@@ -5,16 +5,13 @@ use crate::parts::cookie_form;
 use crate::parts::down;
 use crate::parts::entry_form;
 use crate::parts::entry_of;
-use crate::parts::feature_place;
 use crate::parts::mpidr_and;
 use crate::parts::range_form;
-use crate::parts::smccc;
 use crate::parts::state_id;
 use crate::parts::three;
 use crate::parts::vendor;
 use crate::parts::vendor_type;
 use crate::parts::wide32;
-use crate::places::mode_place;
 use function::Function;
 use words::flag_word;
 
@@ -74,12 +71,7 @@ pub fn call_words(function: Function) -> [u64; 9]
             range.base_word(),
             range.length_word(),
         ),
-        Function::Features { psci_func_id } => three(
-            14,
-            smccc(psci_func_id),
-            feature_place(psci_func_id),
-            0,
-        ),
+        Function::Features { psci_func_id } => three(14, wide32(psci_func_id.to_u32()), 0, 0),
         Function::CpuFreeze => three(15, 0, 0, 0),
         Function::CpuDefaultSuspend { entry } => entry_of(16, entry),
         Function::NodeHwState {
@@ -87,7 +79,7 @@ pub fn call_words(function: Function) -> [u64; 9]
             power_level,
         } => mpidr_and(17, target_cpu, wide32(power_level), 0, 0),
         Function::SystemSuspend { entry } => entry_of(18, entry),
-        Function::SetSuspendMode { mode } => three(19, mode_place(mode), 0, 0),
+        Function::SetSuspendMode { mode } => three(19, wide32(mode.to_u32()), 0, 0),
         Function::StatResidency {
             target_cpu,
             power_state,

@@ -2,7 +2,6 @@
 ghost use mathlib.Core.Path.{_≡_};
 ghost use Rattle.call_exports.specs.PlainWords.{low, byte};
 ghost use Rattle.call_exports.specs.FromParts.{either, mpidrIn, powerStateIn, entryIn, cookieIn, rangeIn, resetTypeIn, featureIn, modeIn};
-use crate::places::function_at;
 use crate::plain_words::low8;
 use crate::plain_words::low32;
 use words::Aff3;
@@ -13,6 +12,7 @@ use words::MemProtectRange;
 use words::Mpidr;
 use words::PowerState;
 use words::PsciFeature;
+use words::PsciFeatureResult;
 use words::ResetType;
 use words::SuspendMode;
 
@@ -104,22 +104,21 @@ pub fn reset_type_in(vendor: u64, word: u64) -> ResetType
     }
 }
 
-// 0 for the function at a place, any other number for the SMCCC version.
-pub fn feature_in(smccc: u64, place: u64) -> PsciFeature
-    ensures { λ r. ⌜ r ≡ featureIn smccc place ⌝ }
+// The feature of the number in the low 32 bits; the SMCCC version where no feature has that number.
+pub fn feature_in(number: u64) -> PsciFeature
+    ensures { λ r. ⌜ r ≡ featureIn number ⌝ }
 {
-    if smccc == 0 {
-        PsciFeature::PsciFunction(function_at(place))
-    } else {
-        PsciFeature::SmcccVersion
+    match PsciFeature::try_from_u32(low32(number)) {
+        PsciFeatureResult::Ok(feature) => feature,
+        PsciFeatureResult::Err(_) => PsciFeature::SmcccVersion,
     }
 }
 
 // 0 for platform coordinated, any other number for OS initiated.
-pub fn mode_in(place: u64) -> SuspendMode
-    ensures { λ r. ⌜ r ≡ modeIn place ⌝ }
+pub fn mode_in(number: u64) -> SuspendMode
+    ensures { λ r. ⌜ r ≡ modeIn number ⌝ }
 {
-    if place == 0 {
+    if number == 0 {
         SuspendMode::PlatformCoordinated
     } else {
         SuspendMode::OsInitiated

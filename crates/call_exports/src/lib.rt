@@ -16,15 +16,14 @@ pub mod call_asked;
 pub mod call_words;
 pub mod from_parts;
 pub mod parts;
-pub mod places;
 pub mod plain_words;
 
-use answers::told::Refusal;
-use answers::told::accepted_words;
-use answers::told::refusal_of;
 use crate::call_asked::Asked;
 use crate::call_asked::call_asked;
 use crate::call_words::call_words;
+use answers::told::Refusal;
+use answers::told::accepted_words;
+use answers::told::refusal_of;
 use decode::registers::low_half_for_protect;
 use encode::EncodeResult;
 use function::FunctionResult;

@@ -3,15 +3,13 @@ ghost use mathlib.Core.Path.{_≡_};
 ghost use Rattle.function.specs.Forms.{entryForm, cookieForm, rangeForm, mpidrForm};
 ghost use Rattle.words.specs.Mpidrs.{aff3Number};
 ghost use mathlib.Core.List.{_∷_, [], _++_};
-ghost use Rattle.call_exports.specs.Parts.{nine, valuesOf, mpidrParts, entryParts, formPart, downPart, stateId, vendorPart, vendorType, smcccPart, featurePlace};
-use crate::places::function_place;
+ghost use Rattle.call_exports.specs.Parts.{nine, valuesOf, mpidrParts, entryParts, formPart, downPart, stateId, vendorPart, vendorType};
 use words::Aff3;
 use words::Cookie;
 use words::EntryPoint;
 use words::MemProtectRange;
 use words::Mpidr;
 use words::PowerState;
-use words::PsciFeature;
 use words::ResetType;
 
 // A byte as a word.
@@ -124,26 +122,6 @@ pub fn vendor_type(reset_type: ResetType) -> u64
     match reset_type {
         ResetType::Architectural(_) => 0,
         ResetType::VendorSpecific(word) => word as u64,
-    }
-}
-
-// 1 for the SMCCC version, 0 for a function.
-pub fn smccc(feature: PsciFeature) -> u64
-    ensures { λ r. ⌜ r ≡ smcccPart feature ⌝ }
-{
-    match feature {
-        PsciFeature::PsciFunction(_) => 0,
-        PsciFeature::SmcccVersion => 1,
-    }
-}
-
-// The place of the function, 0 for the SMCCC version.
-pub fn feature_place(feature: PsciFeature) -> u64
-    ensures { λ r. ⌜ r ≡ featurePlace feature ⌝ }
-{
-    match feature {
-        PsciFeature::PsciFunction(function_id) => function_place(function_id),
-        PsciFeature::SmcccVersion => 0,
     }
 }
 

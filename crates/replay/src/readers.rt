@@ -6,8 +6,8 @@ use crate::values::feature_words;
 use crate::values::function_id_words;
 use crate::values::hw_state_words;
 use crate::values::mpidr_words;
+use crate::values::one_part;
 use crate::values::original_power_state_words;
-use crate::values::place_words;
 use crate::values::power_state_words;
 use crate::values::reset_type_words;
 use crate::values::return_code_words;
@@ -78,14 +78,14 @@ pub(crate) fn mpidr(w: [u64; 16], read: MpidrResult) -> [u64; 16] {
 
 pub(crate) fn system_off2_type(w: [u64; 16], read: SystemOff2TypeResult) -> [u64; 16] {
     match read {
-        SystemOff2TypeResult::Ok(_) => given(w, place_words(0)),
+        SystemOff2TypeResult::Ok(_) => given(w, one_part(0)),
         SystemOff2TypeResult::Err(error) => refused(w, error),
     }
 }
 
 pub(crate) fn architectural(w: [u64; 16], read: ArchitecturalResetTypeResult) -> [u64; 16] {
     match read {
-        ArchitecturalResetTypeResult::Ok(_) => given(w, place_words(0)),
+        ArchitecturalResetTypeResult::Ok(_) => given(w, one_part(0)),
         ArchitecturalResetTypeResult::Err(error) => refused(w, error),
     }
 }

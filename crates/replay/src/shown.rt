@@ -1,10 +1,4 @@
 // Labelled cases: a line for each, with its label and what the codec answers.
-use answers::told::Refusal;
-use call_exports::call_asked::Asked;
-use call_exports::call_asked::call_asked;
-use call_exports::psci_recode;
-use call_exports::psci_recode_smccc;
-use call_log::big_endian::byte_at;
 use crate::operations::answer;
 use crate::records::UNKNOWN_TAG;
 use crate::records::WRONG_PART;
@@ -12,6 +6,12 @@ use crate::records::is_to_registers;
 use crate::records::nine_in;
 use crate::records::regs_in;
 use crate::records::told_record;
+use answers::told::Refusal;
+use call_exports::call_asked::Asked;
+use call_exports::call_asked::call_asked;
+use call_exports::psci_recode;
+use call_exports::psci_recode_smccc;
+use call_log::big_endian::byte_at;
 use encode::EncodeResult;
 use line_exports::Written;
 use line_exports::psci_line;

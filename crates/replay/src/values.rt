@@ -4,20 +4,18 @@ use answers::Error;
 use bits::signs;
 use call_exports::parts::down;
 use call_exports::parts::entry_of;
-use call_exports::parts::feature_place;
 use call_exports::parts::mpidr_and;
-use call_exports::parts::smccc;
 use call_exports::parts::state_id;
 use call_exports::parts::three;
 use call_exports::parts::vendor;
 use call_exports::parts::vendor_type;
-use call_exports::places::function_place;
-use call_exports::places::mode_place;
-use call_exports::plain_words::low32;
+use call_exports::parts::wide32;
 use call_exports::plain_words::low8;
+use call_exports::plain_words::low32;
 use codes::ErrorCode;
 use codes::ReturnCode;
 use function_ids::FunctionId;
+use function_ids::FunctionIdResult;
 use words::EntryPoint;
 use words::HwState;
 use words::Mpidr;
@@ -33,7 +31,8 @@ fn low16(part: u64) -> u16 {
     (part % 0x1_0000) as u16
 }
 
-pub(crate) fn code_place(error_code: ErrorCode) -> u64 {
+// The index of a code among the nine, in the order of their numbers from -1 down.
+pub(crate) fn code_index(error_code: ErrorCode) -> u64 {
     match error_code {
         ErrorCode::NotSupported => 0,
         ErrorCode::InvalidParameters => 1,
@@ -47,7 +46,7 @@ pub(crate) fn code_place(error_code: ErrorCode) -> u64 {
     }
 }
 
-fn hw_state_place(state: HwState) -> u64 {
+fn hw_state_number(state: HwState) -> u64 {
     match state {
         HwState::On => 0,
         HwState::Off => 1,
@@ -55,24 +54,24 @@ fn hw_state_place(state: HwState) -> u64 {
     }
 }
 
-// The words of a case at its place in an enum without data.
-pub(crate) fn place_words(place: u64) -> [u64; 9] {
-    three(0, place, 0, 0)
+// The words of a value that is one part.
+pub(crate) fn one_part(part: u64) -> [u64; 9] {
+    three(0, part, 0, 0)
 }
 
 pub(crate) fn function_id_words(function_id: FunctionId) -> [u64; 9] {
-    place_words(function_place(function_id))
+    one_part(wide32(function_id.to_u32()))
 }
 
 pub(crate) fn return_code_words(return_code: ReturnCode) -> [u64; 9] {
     match return_code {
         ReturnCode::Success => three(0, 0, 0, 0),
-        ReturnCode::Error(error_code) => three(0, 1, code_place(error_code), 0),
+        ReturnCode::Error(error_code) => three(0, 1, code_index(error_code), 0),
     }
 }
 
 pub(crate) fn error_code_words(error_code: ErrorCode) -> [u64; 9] {
-    place_words(code_place(error_code))
+    one_part(code_index(error_code))
 }
 
 pub(crate) fn version_words(version: Version) -> [u64; 9] {
@@ -105,25 +104,32 @@ pub(crate) fn reset_type_words(reset_type: ResetType) -> [u64; 9] {
 }
 
 pub(crate) fn feature_words(feature: PsciFeature) -> [u64; 9] {
-    three(0, smccc(feature), feature_place(feature), 0)
+    one_part(wide32(feature.to_u32()))
 }
 
 pub(crate) fn hw_state_words(state: HwState) -> [u64; 9] {
-    place_words(hw_state_place(state))
+    one_part(hw_state_number(state))
 }
 
 pub(crate) fn suspend_mode_words(mode: SuspendMode) -> [u64; 9] {
-    place_words(mode_place(mode))
+    one_part(wide32(mode.to_u32()))
 }
 
 pub(crate) fn error_words(error: Error) -> [u64; 9] {
     three(0, error.number(), error.value(), 0)
 }
 
-// Past the last place the first case, as in call_exports.
+// A number that no value has stands for a value whose number is another, as in call_exports.
 
-pub(crate) fn code_at(place: u64) -> ErrorCode {
-    match place {
+pub(crate) fn function_id_in(number: u64) -> FunctionId {
+    match FunctionId::try_from_u32(low32(number)) {
+        FunctionIdResult::Ok(function_id) => function_id,
+        FunctionIdResult::Err(_) => FunctionId::PsciVersion,
+    }
+}
+
+pub(crate) fn code_at(index: u64) -> ErrorCode {
+    match index {
         0 => ErrorCode::NotSupported,
         1 => ErrorCode::InvalidParameters,
         2 => ErrorCode::Denied,
@@ -137,8 +143,8 @@ pub(crate) fn code_at(place: u64) -> ErrorCode {
     }
 }
 
-pub(crate) fn hw_state_at(place: u64) -> HwState {
-    match place {
+pub(crate) fn hw_state_in(number: u64) -> HwState {
+    match number {
         0 => HwState::On,
         1 => HwState::Off,
         2 => HwState::Standby,
@@ -146,11 +152,11 @@ pub(crate) fn hw_state_at(place: u64) -> HwState {
     }
 }
 
-pub(crate) fn return_code_in(failure: u64, place: u64) -> ReturnCode {
+pub(crate) fn return_code_in(failure: u64, index: u64) -> ReturnCode {
     if failure == 0 {
         ReturnCode::Success
     } else {
-        ReturnCode::Error(code_at(place))
+        ReturnCode::Error(code_at(index))
     }
 }
 

@@ -3,19 +3,20 @@ use crate::records::nine_in;
 use crate::records::word_answer;
 use crate::records::word_given;
 use crate::values::code_at;
-use crate::values::code_place;
+use crate::values::code_index;
 use crate::values::entry_words;
 use crate::values::error_code_words;
 use crate::values::error_in;
 use crate::values::error_words;
 use crate::values::feature_words;
+use crate::values::function_id_in;
 use crate::values::function_id_words;
-use crate::values::hw_state_at;
+use crate::values::hw_state_in;
 use crate::values::hw_state_words;
 use crate::values::mpidr_words;
+use crate::values::one_part;
 use crate::values::original_power_state_in;
 use crate::values::original_power_state_words;
-use crate::values::place_words;
 use crate::values::power_state_words;
 use crate::values::reset_type_words;
 use crate::values::return_code_in;
@@ -31,13 +32,12 @@ use call_exports::from_parts::mpidr_in;
 use call_exports::from_parts::power_state_in;
 use call_exports::from_parts::reset_type_in;
 use call_exports::parts::wide32;
-use call_exports::places::function_at;
 use codes::ErrorCode;
 use words::ArchitecturalResetType;
 use words::SystemOff2Type;
 
 pub(crate) fn function_id(w: [u64; 16]) -> [u64; 16] {
-    let value = function_at(w[2]);
+    let value = function_id_in(w[2]);
     word_given(w, function_id_words(value), wide32(value.to_u32()))
 }
 
@@ -96,12 +96,12 @@ pub(crate) fn mpidr_64(w: [u64; 16]) -> [u64; 16] {
 
 pub(crate) fn system_off2_type(w: [u64; 16]) -> [u64; 16] {
     let value = SystemOff2Type::HibernateOff;
-    word_given(w, place_words(0), wide32(value.to_u32()))
+    word_given(w, one_part(0), wide32(value.to_u32()))
 }
 
 pub(crate) fn architectural(w: [u64; 16]) -> [u64; 16] {
     let value = ArchitecturalResetType::SystemWarmReset;
-    word_given(w, place_words(0), wide32(value.to_u32()))
+    word_given(w, one_part(0), wide32(value.to_u32()))
 }
 
 pub(crate) fn reset_type(w: [u64; 16]) -> [u64; 16] {
@@ -110,12 +110,12 @@ pub(crate) fn reset_type(w: [u64; 16]) -> [u64; 16] {
 }
 
 pub(crate) fn feature(w: [u64; 16]) -> [u64; 16] {
-    let value = feature_in(w[2], w[3]);
+    let value = feature_in(w[2]);
     word_given(w, feature_words(value), wide32(value.to_u32()))
 }
 
 pub(crate) fn hw_state(w: [u64; 16]) -> [u64; 16] {
-    let value = hw_state_at(w[2]);
+    let value = hw_state_in(w[2]);
     word_given(w, hw_state_words(value), wide32(value.to_u32()))
 }
 
@@ -124,13 +124,13 @@ pub(crate) fn suspend_mode(w: [u64; 16]) -> [u64; 16] {
     word_given(w, suspend_mode_words(value), wide32(value.to_u32()))
 }
 
-// A refusal's error code, by its place.
+// A refusal's error code, by its index.
 pub(crate) fn error(w: [u64; 16]) -> [u64; 16] {
     let value = error_in(w[2], w[3]);
     word_given(
         w,
         error_words(value),
-        code_place(ErrorCode::from_error(value)),
+        code_index(ErrorCode::from_error(value)),
     )
 }
 

@@ -1,11 +1,30 @@
 //! The 35 function numbers.
 use crate::{Error, PsciFeature};
 
-/// 5.1 Function prototypes
-#[derive(Clone, Copy, Debug, Eq, PartialEq)]
-#[repr(u32)]
-#[allow(missing_docs)]
-pub enum FunctionId {
+/// The functions with their numbers: the enum of them, and the function of a number.
+macro_rules! function_ids {
+    ($($function:ident = $number:literal,)*) => {
+        /// 5.1 Function prototypes
+        #[derive(Clone, Copy, Debug, Eq, PartialEq)]
+        #[repr(u32)]
+        #[allow(missing_docs)]
+        pub enum FunctionId {
+            $($function = $number,)*
+        }
+
+        impl FunctionId {
+            /// Nothing for a number that no function has.
+            pub(crate) fn of(number: u32) -> Option<Self> {
+                match number {
+                    $($number => Some(Self::$function),)*
+                    _ => None,
+                }
+            }
+        }
+    };
+}
+
+function_ids! {
     PsciVersion = 0x84000000,
     CpuSuspend32 = 0x84000001,
     CpuSuspend64 = 0xc4000001,
@@ -41,47 +60,6 @@ pub enum FunctionId {
     PsciStatResidency64 = 0xc4000010,
     PsciStatCount32 = 0x84000011,
     PsciStatCount64 = 0xc4000011,
-}
-
-impl FunctionId {
-    /// The functions by the places that the archives know them by: enum psci_place of the header.
-    pub(crate) const PLACES: [Self; 35] = [
-        Self::PsciVersion,
-        Self::CpuSuspend32,
-        Self::CpuSuspend64,
-        Self::CpuOff,
-        Self::CpuOn32,
-        Self::CpuOn64,
-        Self::AffinityInfo32,
-        Self::AffinityInfo64,
-        Self::Migrate32,
-        Self::Migrate64,
-        Self::MigrateInfoType,
-        Self::MigrateInfoUpCpu32,
-        Self::MigrateInfoUpCpu64,
-        Self::SystemOff,
-        Self::SystemReset,
-        Self::PsciFeatures,
-        Self::CpuFreeze,
-        Self::CpuDefaultSuspend32,
-        Self::CpuDefaultSuspend64,
-        Self::NodeHwState32,
-        Self::NodeHwState64,
-        Self::SystemSuspend32,
-        Self::SystemSuspend64,
-        Self::PsciSetSuspendMode,
-        Self::PsciStatResidency32,
-        Self::PsciStatResidency64,
-        Self::PsciStatCount32,
-        Self::PsciStatCount64,
-        Self::SystemReset232,
-        Self::SystemReset264,
-        Self::MemProtect,
-        Self::MemProtectCheckRange32,
-        Self::MemProtectCheckRange64,
-        Self::SystemOff232,
-        Self::SystemOff264,
-    ];
 }
 
 /// A function number is a feature that can be asked about; only the SMCCC version is such a feature and no function.

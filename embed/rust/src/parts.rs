@@ -125,34 +125,32 @@ pub fn reset_type(p: &[u64]) -> ResetType {
     }
 }
 
-/// 1 for the SMCCC version; the function's place.
+/// The one feature that is no function.
+const SMCCC_VERSION: u32 = 0x8000_0000;
+
+/// The feature's number.
 #[inline(always)]
-pub fn of_feature(feature: PsciFeature) -> [u64; 2] {
+pub fn of_feature(feature: PsciFeature) -> [u64; 1] {
     match feature {
-        PsciFeature::PsciFunction(id) => [0, place_of(id)],
-        PsciFeature::SmcccVersion => [1, 0],
+        PsciFeature::PsciFunction(id) => [u32::from(id).into()],
+        PsciFeature::SmcccVersion => [SMCCC_VERSION.into()],
     }
 }
 
-/// The place of a function in the list of all, in which each stands.
-#[inline(always)]
-fn place_of(id: FunctionId) -> u64 {
-    FunctionId::PLACES.iter().take_while(|other| **other != id).count() as u64
-}
-
-/// A place that no function has is refused; the archives give none.
+/// A number that no feature has is refused; the archives give none.
 #[inline(always)]
 pub fn feature(p: &[u64]) -> Result<PsciFeature, Error> {
-    if p[0] != 0 {
+    let number = p[0] as u32;
+    if number == SMCCC_VERSION {
         return Ok(PsciFeature::SmcccVersion);
     }
-    match FunctionId::PLACES.get(p[1] as usize) {
-        Some(id) => Ok(PsciFeature::PsciFunction(*id)),
-        None => Err(Error::Unnamed { number: WRONG_PART, value: p[1] }),
+    match FunctionId::of(number) {
+        Some(id) => Ok(PsciFeature::PsciFunction(id)),
+        None => Err(Error::Unnamed { number: WRONG_PART, value: p[0] }),
     }
 }
 
-/// The mode's place, which is its number.
+/// The mode's number.
 #[inline(always)]
 pub fn suspend_mode(part: u64) -> SuspendMode {
     if part == 0 {

@@ -56,14 +56,14 @@ fn read(op: u64, regs: [u64; 4]) -> Result<Flat, Error> {
     let (low, signed) = (word as u32, word as i32);
     let one = |x: u64| flat(0, &[x]);
     Ok(match op {
-        op::READ_FUNCTION_ID => one(place(&IDS, FunctionId::try_from(low)?)),
+        op::READ_FUNCTION_ID => flat(0, &id(FunctionId::try_from(low)?)),
         op::READ_RETURN_CODE => match ReturnCode::try_from(signed)? {
             ReturnCode::Success => flat(0, &[0, 0]),
-            ReturnCode::Error(c) => flat(0, &[1, place(&CODES, c)]),
+            ReturnCode::Error(c) => flat(0, &[1, index(&CODES, c)]),
         },
-        op::READ_ERROR_CODE => one(place(&CODES, ErrorCode::try_from(signed)?)),
-        op::READ_ERROR_CODE_32 => one(place(&CODES, ErrorCode::try_from(low)?)),
-        op::READ_ERROR_CODE_64 => one(place(&CODES, ErrorCode::try_from(word)?)),
+        op::READ_ERROR_CODE => one(index(&CODES, ErrorCode::try_from(signed)?)),
+        op::READ_ERROR_CODE_32 => one(index(&CODES, ErrorCode::try_from(low)?)),
+        op::READ_ERROR_CODE_64 => one(index(&CODES, ErrorCode::try_from(word)?)),
         op::READ_VERSION => {
             let v = Version::try_from(low)?;
             flat(0, &[v.major.into(), v.minor.into()])
@@ -78,8 +78,8 @@ fn read(op: u64, regs: [u64; 4]) -> Result<Flat, Error> {
         }
         op::READ_RESET_TYPE => flat(0, &reset(ResetType::try_from(low)?)),
         op::READ_FEATURE => flat(0, &feature(PsciFeature::try_from(low)?)),
-        op::READ_HW_STATE => one(place(&HW, HwState::try_from(low)?)),
-        op::READ_SUSPEND_MODE => one(place(&MODES, SuspendMode::try_from(low)?)),
+        op::READ_HW_STATE => one(index(&HW, HwState::try_from(low)?)),
+        op::READ_SUSPEND_MODE => flat(0, &mode(SuspendMode::try_from(low)?)),
         op::FROM_AFF3210 => {
             let [a, b, c, d] = regs.map(|r| r as u8);
             flat(0, &mpidr(Mpidr::from_aff3210(a, b, c, d)))
@@ -97,12 +97,12 @@ fn write(op: u64, p: &[u64]) -> (Flat, Result<u64, No>) {
     let some = |f: Flat, word: u64| (f, Ok(word));
     let one = |x: u64| flat(0, &[x]);
     match op {
-        op::WRITE_FUNCTION_ID => some(one(at(35) as u64), u32::from(IDS[at(35)]).into()),
+        op::WRITE_FUNCTION_ID => some(flat(0, &id(to_id(p))), u32::from(to_id(p)).into()),
         op::WRITE_RETURN_CODE => {
-            let place = p[1] as usize % 9;
+            let at = p[1] as usize % 9;
             match p[0] {
                 0 => some(flat(0, &[0, 0]), i32::from(ReturnCode::Success) as u32 as u64),
-                _ => some(flat(0, &[1, place as u64]), i32::from(ReturnCode::Error(CODES[place])) as u32 as u64),
+                _ => some(flat(0, &[1, at as u64]), i32::from(ReturnCode::Error(CODES[at])) as u32 as u64),
             }
         }
         op::WRITE_ERROR_CODE => some(one(at(9) as u64), i32::from(CODES[at(9)]) as u32 as u64),
@@ -129,10 +129,10 @@ fn write(op: u64, p: &[u64]) -> (Flat, Result<u64, No>) {
         }
         op::WRITE_FEATURE => some(flat(0, &feature(to_feature(p))), u32::from(to_feature(p)).into()),
         op::WRITE_HW_STATE => some(one(at(3) as u64), u32::from(HW[at(3)]).into()),
-        op::WRITE_SUSPEND_MODE => some(one(at(2) as u64), u32::from(MODES[at(2)]).into()),
+        op::WRITE_SUSPEND_MODE => some(flat(0, &mode(to_mode(p))), u32::from(to_mode(p)).into()),
         op::ERROR_TO_CODE => {
             let (number, carried) = refusal(to_error(p[0], p[1]));
-            some(flat(0, &[number, carried]), place(&CODES, ErrorCode::from(to_error(p[0], p[1]))))
+            some(flat(0, &[number, carried]), index(&CODES, ErrorCode::from(to_error(p[0], p[1]))))
         }
         op::ENTRY_ADDRESS => some(flat(0, &entry(to_entry(p))), to_entry(p).entry_point_address()),
         _ => some(flat(0, &entry(to_entry(p))), to_entry(p).context_id()),

@@ -1,24 +1,10 @@
-//! A typed call as nine words, `[tag, part, ..]`, and back. A tag is the case's place in the declaration of `Function`; a
-//! case of an enum without data is its place in its list below. Parts: MPIDR `present aff3 aff2 aff1 aff0`; power state `down id`;
-//! entry, cookie, range `is64 value..`; reset type `vendor value`; feature `smccc place`. The parts are cut to their places here;
-//! `answers.rs` holds the words that come back against those that were asked.
+//! A typed call as nine words, `[tag, part, ..]`, and back. A tag is the case's index in the declaration of `Function`. Parts: MPIDR
+//! `present aff3 aff2 aff1 aff0`; power state `down id`; entry, cookie, range `is64 value..`; reset type `vendor value`; a feature and a mode are
+//! their numbers. Of what no call has, a function is its number, an error code and a hardware state its index in the list below. The parts are
+//! cut to their places here; `answers.rs` holds the words that come back against those that were asked.
 use super::psci::*;
 
 pub type Flat = [u64; 9];
-
-/// In the order of document 01's table.
-pub const IDS: [FunctionId; 35] = {
-    use FunctionId::*;
-    [
-        PsciVersion, CpuSuspend32, CpuSuspend64, CpuOff, CpuOn32, CpuOn64, AffinityInfo32,
-        AffinityInfo64, Migrate32, Migrate64, MigrateInfoType, MigrateInfoUpCpu32,
-        MigrateInfoUpCpu64, SystemOff, SystemReset, PsciFeatures, CpuFreeze,
-        CpuDefaultSuspend32, CpuDefaultSuspend64, NodeHwState32, NodeHwState64,
-        SystemSuspend32, SystemSuspend64, PsciSetSuspendMode, PsciStatResidency32,
-        PsciStatResidency64, PsciStatCount32, PsciStatCount64, SystemReset232, SystemReset264,
-        MemProtect, MemProtectCheckRange32, MemProtectCheckRange64, SystemOff232, SystemOff264,
-    ]
-};
 
 pub const CODES: [ErrorCode; 9] = {
     use ErrorCode::*;
@@ -29,10 +15,9 @@ pub const CODES: [ErrorCode; 9] = {
 };
 
 pub const HW: [HwState; 3] = [HwState::On, HwState::Off, HwState::Standby];
-pub const MODES: [SuspendMode; 2] = [SuspendMode::PlatformCoordinated, SuspendMode::OsInitiated];
 
-/// The place of a case in its list.
-pub fn place<T: PartialEq>(cases: &[T], x: T) -> u64 {
+/// The index of a case in its list.
+pub fn index<T: PartialEq>(cases: &[T], x: T) -> u64 {
     cases.iter().position(|c| *c == x).unwrap() as u64
 }
 
@@ -115,15 +100,30 @@ pub fn to_reset(p: &[u64]) -> ResetType {
     }
 }
 
-pub fn feature(f: PsciFeature) -> [u64; 2] {
-    match f {
-        PsciFeature::PsciFunction(id) => [0, place(&IDS, id)],
-        PsciFeature::SmcccVersion => [1, 0],
-    }
+pub fn feature(f: PsciFeature) -> [u64; 1] {
+    [u32::from(f).into()]
 }
 
+/// For a number that no feature has one whose number is another.
 pub fn to_feature(p: &[u64]) -> PsciFeature {
-    if p[0] == 0 { PsciFeature::PsciFunction(IDS[p[1] as usize % 35]) } else { PsciFeature::SmcccVersion }
+    PsciFeature::try_from(p[0] as u32).unwrap_or(PsciFeature::SmcccVersion)
+}
+
+pub fn mode(m: SuspendMode) -> [u64; 1] {
+    [u32::from(m).into()]
+}
+
+pub fn to_mode(p: &[u64]) -> SuspendMode {
+    if p[0] == 0 { SuspendMode::PlatformCoordinated } else { SuspendMode::OsInitiated }
+}
+
+pub fn id(id: FunctionId) -> [u64; 1] {
+    [u32::from(id).into()]
+}
+
+/// For a number that no function has one whose number is another.
+pub fn to_id(p: &[u64]) -> FunctionId {
+    FunctionId::try_from(p[0] as u32).unwrap_or(FunctionId::PsciVersion)
 }
 
 fn range(r: MemProtectRange) -> [u64; 3] {
@@ -171,7 +171,7 @@ pub fn call(f: Function) -> Flat {
         F::CpuDefaultSuspend { entry: e } => flat(16, &entry(e)),
         F::NodeHwState { target_cpu, power_level } => flat(17, &join(&mpidr(target_cpu), &[power_level.into()])),
         F::SystemSuspend { entry: e } => flat(18, &entry(e)),
-        F::SetSuspendMode { mode } => flat(19, &[place(&MODES, mode)]),
+        F::SetSuspendMode { mode: m } => flat(19, &mode(m)),
         F::StatResidency { target_cpu, power_state } => flat(20, &join(&mpidr(target_cpu), &power(power_state))),
         F::StatCount { target_cpu, power_state } => flat(21, &join(&mpidr(target_cpu), &power(power_state))),
     }
@@ -200,7 +200,7 @@ pub fn to_call(w: &Flat) -> Function {
         16 => F::CpuDefaultSuspend { entry: to_entry(p) },
         17 => F::NodeHwState { target_cpu: to_mpidr(p), power_level: p[5] as u32 },
         18 => F::SystemSuspend { entry: to_entry(p) },
-        19 => F::SetSuspendMode { mode: MODES[(p[0] != 0) as usize] },
+        19 => F::SetSuspendMode { mode: to_mode(p) },
         20 => F::StatResidency { target_cpu: to_mpidr(p), power_state: to_power(&p[5..]) },
         21 => F::StatCount { target_cpu: to_mpidr(p), power_state: to_power(&p[5..]) },
         tag => unreachable!("tag {tag}"),

@@ -1,6 +1,7 @@
 //! Questions: boundary values in full, then seeded random ones. What an answer must leave as it is holds odd words.
 use crate::flat::*;
 use crate::{Record, op, original};
+use arm_psci::FunctionId;
 
 /// splitmix64.
 pub struct Rng(pub u64);
@@ -32,9 +33,26 @@ pub const SET: &[u64] = &[
 /// The bits of a 64-bit MPIDR that hold an affinity: document 01, "The typed call".
 pub const AFFINITIES: u64 = 0xff_00ff_ffff;
 
+/// In the order of document 01's table.
+const IDS: [FunctionId; 35] = {
+    use FunctionId::*;
+    [
+        PsciVersion, CpuSuspend32, CpuSuspend64, CpuOff, CpuOn32, CpuOn64, AffinityInfo32,
+        AffinityInfo64, Migrate32, Migrate64, MigrateInfoType, MigrateInfoUpCpu32,
+        MigrateInfoUpCpu64, SystemOff, SystemReset, PsciFeatures, CpuFreeze,
+        CpuDefaultSuspend32, CpuDefaultSuspend64, NodeHwState32, NodeHwState64,
+        SystemSuspend32, SystemSuspend64, PsciSetSuspendMode, PsciStatResidency32,
+        PsciStatResidency64, PsciStatCount32, PsciStatCount64, SystemReset232, SystemReset264,
+        MemProtect, MemProtectCheckRange32, MemProtectCheckRange64, SystemOff232, SystemOff264,
+    ]
+};
+
 pub fn numbers() -> Vec<u64> {
     IDS.iter().map(|id| u32::from(*id) as u64).collect()
 }
+
+/// The one feature that is no function's number.
+const SMCCC_VERSION: u64 = 0x8000_0000;
 
 /// `SET`, each power of two, one less, its complement, and each function number and its neighbours.
 pub fn bounds() -> Vec<u64> {
@@ -265,7 +283,7 @@ fn domain(part: Part) -> Vec<Vec<u64>> {
         Part::Entry | Part::Range => pairs(0, &few).chain(pairs(1, &wide)).collect(),
         Part::Cookie => formed().collect(),
         Part::Reset => std::iter::once(vec![0, 0]).chain(words32().into_iter().map(|v| vec![1, v])).collect(),
-        Part::Feature => (0..35).map(|i| vec![0, i]).chain([vec![1, 0]]).collect(),
+        Part::Feature => numbers().into_iter().chain([SMCCC_VERSION]).map(|n| vec![n]).collect(),
         Part::Word => words32().into_iter().map(|w| vec![w]).collect(),
         Part::Bool => vec![vec![0], vec![1]],
         Part::Unit => vec![vec![0]],
@@ -276,9 +294,13 @@ fn domain(part: Part) -> Vec<Vec<u64>> {
         Part::Return => [vec![0, 0]].into_iter().chain((0..9).map(|i| vec![1, i])).collect(),
         Part::Code => (0..9).map(|i| vec![i]).collect(),
         Part::Hw => (0..3).map(|i| vec![i]).collect(),
-        Part::Id => (0..35).map(|i| vec![i]).collect(),
+        Part::Id => numbers().into_iter().map(|n| vec![n]).collect(),
         Part::Refusal => (1..14).flat_map(|n| bounds().into_iter().map(move |v| vec![n, carried(n, v)])).collect(),
     }
+}
+
+fn some_number(rng: &mut Rng) -> u64 {
+    u32::from(IDS[rng.below(35) as usize]).into()
 }
 
 fn some_part(part: Part, rng: &mut Rng, out: &mut Vec<u64>) {
@@ -301,7 +323,7 @@ fn some_part(part: Part, rng: &mut Rng, out: &mut Vec<u64>) {
         Part::Entry | Part::Range => out.extend([form, wide(word), wide(rng.word())]),
         Part::Cookie => out.extend([form, wide(word)]),
         Part::Reset => out.extend([form, if form == 0 { 0 } else { word as u32 as u64 }]),
-        Part::Feature => out.extend([form, if form == 0 { rng.below(35) } else { 0 }]),
+        Part::Feature => out.push(if form == 0 { some_number(rng) } else { SMCCC_VERSION }),
         Part::Word => out.push(if form == 0 { word & 7 } else { word as u32 as u64 }),
         Part::Bool => out.push(form),
         Part::Unit => out.push(0),
@@ -309,7 +331,7 @@ fn some_part(part: Part, rng: &mut Rng, out: &mut Vec<u64>) {
         Part::Return => out.extend([form, if form == 0 { 0 } else { rng.below(9) }]),
         Part::Code => out.push(rng.below(9)),
         Part::Hw => out.push(rng.below(3)),
-        Part::Id => out.push(rng.below(35)),
+        Part::Id => out.push(some_number(rng)),
         Part::Refusal => {
             let number = 1 + rng.below(13);
             out.extend([number, carried(number, word)]);

@@ -96,7 +96,7 @@ pub mod op {
     pub const WRITE_FEATURE: u64 = 60;
     pub const WRITE_HW_STATE: u64 = 61;
     pub const WRITE_SUSPEND_MODE: u64 = 62;
-    pub const ERROR_TO_CODE: u64 = 63; // number and value of a refusal to the place of a code
+    pub const ERROR_TO_CODE: u64 = 63; // number and value of a refusal to the index of a code
     pub const ENTRY_ADDRESS: u64 = 64;
     pub const ENTRY_CONTEXT: u64 = 65;
     pub const WRITE_POWER_STATE_ORIGINAL: u64 = 66;
