@@ -77,7 +77,7 @@ enum psci_refusal_number {
     PSCI_INVALID_POWER_LEVEL = 27,             /* the level, which is above 3: in the original format alone, in the place of 15 */
     PSCI_INVALID_VENDOR_TYPE = 31,             /* the vendor's reset type, which is above 0x7fffffff */
     PSCI_UNKNOWN_TAG = 1002,                   /* the tag */
-    PSCI_WRONG_PART = 1003,                    /* 0: a part that has no room in its place, is no feature's number, or is not 0 where there is none */
+    PSCI_WRONG_PART = 1003,                    /* 0: a part that has no room in its slot, is no feature's number, or is not 0 where there is none */
 
     /* line */
     PSCI_BAD_NUMBER = 24                       /* the record number, which is above PSCI_LAST_RECORD */

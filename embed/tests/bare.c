@@ -45,7 +45,7 @@ enum { APPLICATION_EXIT = 0x20026, READ_BYTES = 1, APPEND_BYTES = 9, FAULT = 3 }
 long semihosting(long operation, const void *block);
 int main(int count, char **arguments);
 _Noreturn void start(void);
-_Noreturn void fault(uint64_t syndrome, uint64_t place, uint64_t address);
+_Noreturn void fault(uint64_t syndrome, uint64_t instruction, uint64_t address);
 
 static FILE files[3];
 FILE *stdin = &files[0], *stdout = &files[1], *stderr = &files[2];
@@ -177,10 +177,10 @@ size_t strlen(const char *text) {
 
 int strcmp(const char *left, const char *right) { return memcmp(left, right, strlen(left) + 1); }
 
-_Noreturn void fault(uint64_t syndrome, uint64_t place, uint64_t address) {
+_Noreturn void fault(uint64_t syndrome, uint64_t instruction, uint64_t address) {
     /* a data abort at this level, 0x25, whose reason is alignment, 0x21 */
     int is_alignment = syndrome >> 26 == 0x25 && (syndrome & 0x3f) == 0x21;
-    fprintf(stderr, "bare: %s at %lx: syndrome %lx, address %lx\n", is_alignment ? "alignment fault" : "fault", place, syndrome, address);
+    fprintf(stderr, "bare: %s at %lx: syndrome %lx, address %lx\n", is_alignment ? "alignment fault" : "fault", instruction, syndrome, address);
     leave(FAULT);
 }
 

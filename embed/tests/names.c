@@ -7,9 +7,9 @@
 
 #include "psci.h"
 
-/* A part by its place in the nine words; place 0, that of the tag, ends the list. */
+/* A part by its index in the nine words; index 0, that of the tag, ends the list. */
 struct part {
-    int place;
+    int index;
     uint64_t value;
 };
 
@@ -277,8 +277,8 @@ static int protects(decoder decode, recoder recode, uint64_t r1, uint64_t enable
 static void lay_out(const struct example *example, uint64_t call[PSCI_CALL_WORDS]) {
     memset(call, 0, PSCI_CALL_WORDS * sizeof call[0]);
     call[0] = example->tag;
-    for (const struct part *part = example->parts; part < example->parts + PSCI_CALL_WORDS && part->place != 0; part++)
-        call[part->place] = part->value;
+    for (const struct part *part = example->parts; part < example->parts + PSCI_CALL_WORDS && part->index != 0; part++)
+        call[part->index] = part->value;
 }
 
 #define COUNT(list) (sizeof(list) / sizeof(list)[0])

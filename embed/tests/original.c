@@ -18,7 +18,7 @@ _Static_assert((PSCI_0_2_POWER_STATE_ID_MASK | PSCI_0_2_POWER_STATE_TYPE_MASK | 
 /* The calls with a power state: the function number, the tag, whether it is of the 64-bit form, and the register of the power state. */
 struct stated {
     uint64_t number, tag;
-    int is_64, place;
+    int is_64, index;
 };
 
 static const struct stated stated[] = {
@@ -180,8 +180,8 @@ static struct laid residency(const struct stated *f, uint32_t word, const uint64
 
 /* A call with that power state, in whose register the high half does not count. */
 static struct laid laid_out(const struct stated *f, uint32_t word, const uint64_t parts[3]) {
-    struct laid laid = f->place == 1 ? suspend(f, word, parts) : residency(f, word, parts);
-    laid.regs[f->place] |= (uint64_t)~word << 32;
+    struct laid laid = f->index == 1 ? suspend(f, word, parts) : residency(f, word, parts);
+    laid.regs[f->index] |= (uint64_t)~word << 32;
     return laid;
 }
 

@@ -18,19 +18,19 @@ static void registers_of(const uint8_t record[RECORD], uint64_t regs[PSCI_REGIST
 }
 
 /* Whether the line leaves the bytes before and behind it as they were. Bytes may be lent anywhere: those of one line after the other begin at each
- * place of a word. */
+ * offset in a word. */
 static int by_line(size_t number, const uint64_t regs[PSCI_REGISTERS]) {
     _Alignas(8) uint8_t room[8 + PSCI_LINE_BYTES], untouched[sizeof room];
-    size_t place = number % 8;
+    size_t offset = number % 8;
     memset(room, 0xaa, sizeof room);
     memset(untouched, 0xaa, sizeof untouched);
 
-    struct psci_written written = psci_line(number, regs, room + place);
+    struct psci_written written = psci_line(number, regs, room + offset);
     if (written.number != PSCI_ACCEPTED || written.value > PSCI_LINE_BYTES)
         return 0;
-    fwrite(room + place, 1, written.value, stdout);
-    size_t end = place + written.value;
-    return memcmp(room, untouched, place) == 0 && memcmp(room + end, untouched, sizeof room - end) == 0;
+    fwrite(room + offset, 1, written.value, stdout);
+    size_t end = offset + written.value;
+    return memcmp(room, untouched, offset) == 0 && memcmp(room + end, untouched, sizeof room - end) == 0;
 }
 
 /* Whether a refusal leaves the words as they were. */

@@ -8,7 +8,7 @@ use Rattle.answers.specs.Answers.{Answer, accepted, refused, through, andThen}
 use Rattle.answers.proofs.Answering.{came-then, not-accepted, same-accepted}
 use Rattle.answers.proofs.Choosing.{NoneOf, none-chosen}
 use Rattle.function.specs.declared.Function.{Function}
-use Rattle.call_exports.specs.PlainWords.{same, ofParts}
+use Rattle.call_exports.specs.SameWords.{same, ofParts}
 use Rattle.call_exports.specs.CallAsked.{Tagged, calls, callAt}
 use Rattle.call_exports.proofs.SameWords.{same-equal, equal-same, other-same}
 

@@ -1,4 +1,4 @@
--- The parts of a decoded call fit their places: those of each field as it was read, and so of each of the 35 rows. Assumes nothing.
+-- The parts of a decoded call fit their slots: those of each field as it was read, and so of each of the 35 rows. Assumes nothing.
 use mathlib.Core.Path.{_≡_, refl, subst}
 use mathlib.Core.Bool.{Bool, true, false, cond, not}
 use mathlib.Core.List.{List, [], _∷_}
@@ -41,7 +41,7 @@ use Rattle.roundtrip.specs.Codec.{Registers}
 use Rattle.roundtrip.proofs.TwoCodecs.{by-rows}
 use Rattle.roundtrip.proofs.Rows.{FitsLook, mpidrAt}
 use Rattle.call_exports.specs.Parts.{_within_, Fit, mpidrParts, powerStateParts, entryParts, cookieParts, resetTypeParts}
-use Rattle.call_exports.specs.CallWords.{callParts}
+use Rattle.call_exports.specs.NineWords.{callParts}
 use Rattle.call_exports.proofs.OwnParts.{both-fit}
 
 -- ---- a field as it was read

@@ -14,13 +14,13 @@ use Rattle.answers.proofs.Lending.{fronted-all}
 use Rattle.function.specs.declared.Function.{Function}
 use Rattle.encode.specs.Answers.{encodeAnswer}
 use Rattle.encode.specs.declared.EncodeResult.{EncodeResult}
-use Rattle.call_exports.specs.CallWords.{callWords}
+use Rattle.call_exports.specs.NineWords.{nineWords}
 use Rattle.call_exports.specs.Exports.{stored}
 
 -- the words of a call are nine
-pub nine-words : (f : Function) → length (callWords f) ≡ 9
-unfolding callWords
-nine-words f = refl
+pub nine-long : (f : Function) → length (nineWords f) ≡ 9
+unfolding nineWords
+nine-long f = refl
 
 -- what decoding gave, of calls that have nine words
 module _ {A : Type 0} (words : A → List ℕ) (nine : (f : A) → length (words f) ≡ 9) (answer : Answer A) (out : List ℕ) where

@@ -1,7 +1,7 @@
 pub mod CallAskedLaws
 pub mod DecodedFit
 pub mod ExportLaws
-pub mod NineWords
+pub mod NineWordsLaws
 pub mod OwnParts
 pub mod OwnWords
 pub mod SameWords

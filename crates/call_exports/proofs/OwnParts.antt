@@ -1,4 +1,4 @@
--- The value of the parts of a value is that value, where each part fits its place. Assumes nothing.
+-- The value of the parts of a value is that value, where each part fits its slot. Assumes nothing.
 use mathlib.Core.Path.{_≡_, refl, ap, ap₂, _∙_}
 use mathlib.Core.Bool.{Bool, true, false, not}
 use mathlib.Core.List.{List, [], _∷_, _++_}
@@ -32,7 +32,7 @@ use Rattle.words.specs.declared.suspend_modes.SuspendMode.{SuspendMode}
 use Rattle.words.specs.declared.suspend_modes.SuspendMode.the-variants.{PlatformCoordinated, OsInitiated}
 use Rattle.words.proofs.WordLaws.{word-laws}
 use Rattle.function.specs.Forms.{mpidrForm, entryForm, cookieForm, rangeForm}
-use Rattle.call_exports.specs.PlainWords.{low, byte}
+use Rattle.call_exports.specs.LowBits.{low, byte}
 use Rattle.call_exports.specs.Parts.{CallPart, _within_, Fit, valuesOf, formPart, downPart, stateId, vendorPart, vendorType, mpidrParts, powerStateParts, entryParts, cookieParts, rangeParts, resetTypeParts}
 use Rattle.call_exports.specs.FromParts.{either, acceptedOr, mpidrIn, powerStateIn, entryIn, cookieIn, rangeIn, resetTypeIn, featureIn, modeIn}
 

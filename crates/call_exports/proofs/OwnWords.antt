@@ -1,4 +1,4 @@
--- The words of a call whose parts fit their places ask for that call, and only they do. Assumes nothing.
+-- The words of a call whose parts fit their slots ask for that call, and only they do. Assumes nothing.
 use mathlib.Core.Path.{_≡_, refl, sym, ap}
 use mathlib.Core.List.{List, [], _∷_}
 use Prim.Native.Nat.{ℕ}
@@ -8,14 +8,14 @@ use Rattle.words.specs.declared.system_off2_types.SystemOff2Type.the-variants.{
 use Rattle.function.specs.declared.Function.{Function}
 use Rattle.function.specs.declared.Function.the-variants as call
 use Rattle.call_exports.specs.Parts.{_within_, Fit, mpidrParts, powerStateParts, entryParts, cookieParts, resetTypeParts}
-use Rattle.call_exports.specs.CallWords.{callParts, callWords}
+use Rattle.call_exports.specs.NineWords.{callParts, nineWords}
 use Rattle.call_exports.specs.CallAsked.{callAt, callAsked}
 use Rattle.call_exports.proofs.CallAskedLaws.{own-words, only-own}
 use Rattle.call_exports.proofs.OwnParts.{of-both, mpidr-own, power-state-own, level-own, entry-own, cookie-own, range-own, reset-type-own, feature-own, mode-own, flag-own}
 
 -- the call at the tag of a call's own words
-pub found : (f : Function) → Fit (callParts f) → callAt (callWords f) (getD (callWords f) 0 0) ≡ accepted f
-unfolding callAt callWords
+pub found : (f : Function) → Fit (callParts f) → callAt (nineWords f) (getD (nineWords f) 0 0) ≡ accepted f
+unfolding callAt nineWords
 found call.Version h = refl
 found (call.CpuSuspend state entry) h = ap accepted (of-both call.CpuSuspend (powerStateParts state) (entryParts entry) (h .1) (power-state-own state) (entry-own entry))
 found call.CpuOff h = refl
@@ -40,10 +40,10 @@ found (call.SetSuspendMode mode) h = ap accepted (ap call.SetSuspendMode (mode-o
 found (call.StatResidency mpidr state) h = ap accepted (of-both call.StatResidency (mpidrParts mpidr) (powerStateParts state) (h .1) (mpidr-own mpidr) (power-state-own state))
 found (call.StatCount mpidr state) h = ap accepted (of-both call.StatCount (mpidrParts mpidr) (powerStateParts state) (h .1) (mpidr-own mpidr) (power-state-own state))
 
-pub own-call : (f : Function) → Fit (callParts f) → callAsked (callWords f) ≡ accepted f
+pub own-call : (f : Function) → Fit (callParts f) → callAsked (nineWords f) ≡ accepted f
 unfolding callAsked
-own-call f h = sym (own-words callWords (callWords f) _ (found f h) refl)
+own-call f h = sym (own-words nineWords (nineWords f) _ (found f h) refl)
 
-pub only-call : (c : List ℕ) (f : Function) → callAsked c ≡ accepted f → c ≡ callWords f
+pub only-call : (c : List ℕ) (f : Function) → callAsked c ≡ accepted f → c ≡ nineWords f
 unfolding callAsked
-only-call c f e = only-own callWords c (callAt c (getD c 0 0)) f e
+only-call c f e = only-own nineWords c (callAt c (getD c 0 0)) f e

@@ -12,7 +12,7 @@ use Rattle.bits.proofs.HalfLaws.{or-none}
 use Rattle.bits.proofs.Picks.{both-true}
 use Rattle.bits.proofs.Xor.{xor-none}
 use Rattle.answers.proofs.Lending.{put-front, fronted-all, stored-all}
-use Rattle.call_exports.specs.PlainWords.{same}
+use Rattle.call_exports.specs.SameWords.{same}
 use Rattle.call_exports.specs.Parts.{nine}
 
 -- ---- word by word

@@ -9,9 +9,10 @@ use Rattle.answers.specs.Answers.{Answer, accepted, refused, choose, through, a
 use Rattle.words.specs.declared.system_off2_types.SystemOff2Type.the-variants.{HibernateOff}
 use Rattle.function.specs.declared.Function.{Function}
 use Rattle.function.specs.declared.Function.the-variants as call
-use Rattle.call_exports.specs.PlainWords.{low, ofParts}
+use Rattle.call_exports.specs.LowBits.{low}
+use Rattle.call_exports.specs.SameWords.{ofParts}
 use Rattle.call_exports.specs.FromParts.{mpidrIn, powerStateIn, entryIn, cookieIn, rangeIn, resetTypeIn, featureIn, modeIn}
-use Rattle.call_exports.specs.CallWords.{callWords}
+use Rattle.call_exports.specs.NineWords.{nineWords}
 use Rattle.call_exports.specs.declared.call_asked.Asked.{Asked}
 use Rattle.call_exports.specs.declared.call_asked.Asked.the-variants.{Call, UnknownTag, WrongPart}
 
@@ -56,7 +57,7 @@ callAt c tag = through (λ t. t .call) (choose (λ t. t .tag) (calls c) (refused
 
 -- the call that nine words stand for
 unfoldable pub callAsked : List ℕ → Answer Function
-callAsked c = andThen (callAt c (getD c 0 0)) (λ f. ofParts c (callWords f) (accepted f))
+callAsked c = andThen (callAt c (getD c 0 0)) (λ f. ofParts c (nineWords f) (accepted f))
 
 abbrev pub askedAnswer : Asked → Answer Function
 askedAnswer (Call f) = accepted f

@@ -1,4 +1,4 @@
--- The value that parts stand for, each part cut to its place. Where a part has no room in its place, or is a number that no feature has, or a word past the
+-- The value that parts stand for, each part cut to its slot. Where a part has no room in its slot, or is a number that no feature has, or a word past the
 -- parts is not zero, the value's own nine words are others than those asked with: refusal 1003 of the exports.
 use mathlib.Core.Bool.{cond}
 use mathlib.Core.List.{List}
@@ -25,7 +25,7 @@ use Rattle.words.specs.declared.psci_features.PsciFeature.{PsciFeature}
 use Rattle.words.specs.declared.psci_features.PsciFeature.the-variants.{SmcccVersion}
 use Rattle.words.specs.declared.suspend_modes.SuspendMode.{SuspendMode}
 use Rattle.words.specs.declared.suspend_modes.SuspendMode.the-variants.{PlatformCoordinated, OsInitiated}
-use Rattle.call_exports.specs.PlainWords.{low, byte}
+use Rattle.call_exports.specs.LowBits.{low, byte}
 
 -- 0 for the first of two things, any other number for the second
 abbrev pub either : {A : Type 0} → ℕ → A → A → A

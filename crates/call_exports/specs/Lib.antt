@@ -1,7 +1,8 @@
 pub mod CallAsked
-pub mod CallWords
 pub mod Exports
 pub mod FromParts
+pub mod LowBits
 pub mod NineWords
+pub mod NineWordsLaws
 pub mod Parts
-pub mod PlainWords
+pub mod SameWords

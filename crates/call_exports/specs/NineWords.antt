@@ -1,49 +1,37 @@
--- What the nine words of a call promise to a caller in C: they ask for that call and for no other, and words that decoding gave are never turned back when
--- they are handed to encoding. Stated of any codec whose calls have nine words, and so of document 01's and of Change 2's; proved in proofs/NineWords.antt.
-use mathlib.Core.List.{List}
-use mathlib.Core.Path.{_≡_}
+-- The nine words of a call.
+use mathlib.Core.List.{List, [], _∷_, _++_}
 use Prim.Native.Nat.{ℕ}
-use lib.ListN.{length}
-use Rattle.answers.specs.Answers.{Answer, accepted, through, andThen}
 use Rattle.function.specs.declared.Function.{Function}
-use Rattle.roundtrip.specs.Codec.{Codec, Registers, wordsIn}
-use Rattle.roundtrip.specs.Document01.{document01}
-use Rattle.roundtrip.specs.Recode.{recodeBy}
-use Rattle.roundtrip.specs.Smccc.{smccc}
-use Rattle.call_exports.specs.CallAsked.{callAsked}
-use Rattle.call_exports.specs.CallWords.{callParts, callWords}
-use Rattle.call_exports.specs.Exports.{encodeAsked}
-use Rattle.call_exports.specs.Parts.{CallPart, Fit}
+use Rattle.function.specs.declared.Function.the-variants as call
+use Rattle.words.specs.Flags.{flagWord}
+use Rattle.words.specs.PsciFeatures.{featureNumber}
+use Rattle.words.specs.SuspendModes.{suspendModeNumber}
+use Rattle.call_exports.specs.Parts.{CallPart, _within_, tag, valuesOf, nine, mpidrParts, powerStateParts, entryParts, cookieParts, rangeParts, resetTypeParts}
 
--- calls as words: the parts of a call, its nine words, and the call that nine words stand for
-pub record Worded (Call : Type 0) : Type 0 where
-  pub parts : Call → List CallPart
-  pub words : Call → List ℕ
-  pub asked : List ℕ → Answer Call
+-- the tag, which is the index in the enum Function; the parts of its fields in their order
+abbrev pub callParts : Function → List CallPart
+callParts call.Version = tag 0 ∷ []
+callParts (call.CpuSuspend state entry) = tag 1 ∷ powerStateParts state ++ entryParts entry
+callParts call.CpuOff = tag 2 ∷ []
+callParts (call.CpuOn mpidr entry) = tag 3 ∷ mpidrParts mpidr ++ entryParts entry
+callParts (call.AffinityInfo mpidr level) = tag 4 ∷ mpidrParts mpidr ++ level within 32 ∷ []
+callParts (call.Migrate mpidr) = tag 5 ∷ mpidrParts mpidr
+callParts call.MigrateInfoType = tag 6 ∷ []
+callParts (call.MigrateInfoUpCpu is32bit) = tag 7 ∷ flagWord is32bit within 1 ∷ []
+callParts call.SystemOff = tag 8 ∷ []
+callParts (call.SystemOff2 offType cookie) = tag 9 ∷ 0 within 1 ∷ cookieParts cookie
+callParts call.SystemReset = tag 10 ∷ []
+callParts (call.SystemReset2 resetType cookie) = tag 11 ∷ resetTypeParts resetType ++ cookieParts cookie
+callParts (call.MemProtect enabled) = tag 12 ∷ flagWord enabled within 1 ∷ []
+callParts (call.MemProtectCheckRange range) = tag 13 ∷ rangeParts range
+callParts (call.Features feature) = tag 14 ∷ featureNumber feature within 32 ∷ []
+callParts call.CpuFreeze = tag 15 ∷ []
+callParts (call.CpuDefaultSuspend entry) = tag 16 ∷ entryParts entry
+callParts (call.NodeHwState mpidr level) = tag 17 ∷ mpidrParts mpidr ++ level within 32 ∷ []
+callParts (call.SystemSuspend entry) = tag 18 ∷ entryParts entry
+callParts (call.SetSuspendMode mode) = tag 19 ∷ suspendModeNumber mode within 1 ∷ []
+callParts (call.StatResidency mpidr state) = tag 20 ∷ mpidrParts mpidr ++ powerStateParts state
+callParts (call.StatCount mpidr state) = tag 21 ∷ mpidrParts mpidr ++ powerStateParts state
 
-module _ (c : Codec) (w : Worded (c .Call)) where
-  pub record NineWords : Type 0 where
-    -- the words of a call whose parts fit their places ask for that call
-    pub own : (f : c .Call) → Fit (w .parts f) → w .asked (w .words f) ≡ accepted f
-    -- so no two such calls have the same words
-    pub apart : (f g : c .Call) → Fit (w .parts f) → Fit (w .parts g) → w .words f ≡ w .words g → f ≡ g
-    -- and only the words of a call ask for it: all others are turned back
-    pub only : (words : List ℕ) (f : c .Call) → w .asked words ≡ accepted f → words ≡ w .words f
-    -- the parts of a decoded call fit their places
-    pub fit : (r : List ℕ) (f : c .Call) → Registers r → c .decode r ≡ accepted f → Fit (w .parts f)
-    -- so encoding does not refuse its words, into a run of four numbers, and leaves what it leaves of the call
-    pub taken : (r : List ℕ) (f : c .Call) → Registers r → c .decode r ≡ accepted f → (run : List ℕ) → length run ≡ 4 →
-        encodeAsked (w .asked) (c .encode) (w .words f) run ≡ accepted (wordsIn c f run)
-    -- decoding to nine words, and then encoding those, is recoding
-    pub recoded : (r run : List ℕ) → Registers r →
-        andThen (through (w .words) (c .decode r)) (λ words. encodeAsked (w .asked) (c .encode) words run) ≡ recodeBy c r run
-
--- document 01's calls, which Change 2's decoder gives too
-abbrev pub worded : Worded Function
-worded = record { parts = callParts; words = callWords; asked = callAsked }
-
-abbrev pub NineWordsOf01 : Type 0
-NineWordsOf01 = NineWords document01 worded
-
-abbrev pub NineWordsOfSmccc : Type 0
-NineWordsOfSmccc = NineWords smccc worded
+unfoldable pub nineWords : Function → List ℕ
+nineWords f = nine (valuesOf (callParts f))

@@ -1,4 +1,4 @@
--- The parts that the fields of a call are handed over in, each in a place of so many bits; nine words are a tag, its parts, then zeros.
+-- The parts that the fields of a call are handed over in, each in a slot of so many bits; nine words are a tag, its parts, then zeros.
 use mathlib.Core.List.{List, [], _∷_, map}
 use Prim.Native.Nat.{ℕ, _<_, _^_}
 use lib.ListN.{getD}
@@ -17,7 +17,7 @@ use Rattle.function.specs.Forms.{entryForm, cookieForm, rangeForm, mpidrForm}
 use Rattle.words.specs.Cookies.{cookieWord}
 use Rattle.words.specs.MemProtectRanges.{baseWord, lengthWord}
 
--- a part: its value, and how many bits its place has
+-- a part: its value, and how many bits its slot has
 pub record CallPart : Type 0 where
   pub value : ℕ
   pub bits : ℕ
@@ -33,7 +33,7 @@ tag n = n within 64
 abbrev pub valuesOf : List CallPart → List ℕ
 valuesOf parts = map (λ (p : CallPart). p .value) parts
 
--- each part has room in its place
+-- each part has room in its slot
 abbrev pub Fit : List CallPart → Type 0
 Fit [] = Unit {0}
 Fit (p ∷ ps) = (p .value < 2 ^ p .bits) × Fit ps

@@ -4,7 +4,6 @@ ghost use mathlib.Core.Bool.{not};
 ghost use lib.Dec.{eqb};
 ghost use lib.ListN.{getD};
 ghost use Rattle.call_exports.specs.CallAsked.{callAt, callAsked, askedAnswer};
-use crate::call_words::call_words;
 use crate::from_parts::cookie_in;
 use crate::from_parts::entry_in;
 use crate::from_parts::feature_in;
@@ -13,8 +12,9 @@ use crate::from_parts::mpidr_in;
 use crate::from_parts::power_state_in;
 use crate::from_parts::range_in;
 use crate::from_parts::reset_type_in;
-use crate::plain_words::differing_bits;
-use crate::plain_words::low32;
+use crate::low_bits::low32;
+use crate::nine_words::nine_words;
+use crate::same_words::differing_bits;
 use function::Function;
 use words::SystemOff2Type;
 
@@ -32,7 +32,7 @@ fn is_set(part: u64) -> bool
     part != 0
 }
 
-// The call of a tag, its parts cut to their places. A tag above 21 is unknown.
+// The call of a tag, its parts cut to their slots. A tag above 21 is unknown.
 pub fn call_at(c: [u64; 9]) -> Asked
     ensures { λ r. ⌜ askedAnswer r ≡ callAt c (getD c 0 0) ⌝ }
 {
@@ -113,13 +113,13 @@ pub fn call_at(c: [u64; 9]) -> Asked
 }
 
 // The call whose nine words these are. A tag above 21 is unknown; words that are not those of the call of their tag, as a part that has no
-// room in its place, are wrong.
+// room in its slot, are wrong.
 pub fn call_asked(c: [u64; 9]) -> Asked
     ensures { λ r. ⌜ askedAnswer r ≡ callAsked c ⌝ }
 {
     match call_at(c) {
         Asked::Call(function) => {
-            if differing_bits(c, call_words(function)) == 0 {
+            if differing_bits(c, nine_words(function)) == 0 {
                 Asked::Call(function)
             } else {
                 Asked::WrongPart

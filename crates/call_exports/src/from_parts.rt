@@ -1,9 +1,9 @@
-// The value that parts stand for, each part cut to its place.
+// The value that parts stand for, each part cut to its slot.
 ghost use mathlib.Core.Path.{_≡_};
-ghost use Rattle.call_exports.specs.PlainWords.{low, byte};
+ghost use Rattle.call_exports.specs.LowBits.{low, byte};
 ghost use Rattle.call_exports.specs.FromParts.{either, mpidrIn, powerStateIn, entryIn, cookieIn, rangeIn, resetTypeIn, featureIn, modeIn};
-use crate::plain_words::low8;
-use crate::plain_words::low32;
+use crate::low_bits::low8;
+use crate::low_bits::low32;
 use words::Aff3;
 use words::ArchitecturalResetType;
 use words::Cookie;

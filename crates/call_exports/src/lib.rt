@@ -1,5 +1,5 @@
-// The codec over plain words, for callers in C and Rust: decode, encode, and one after the other; what decodes, by document 01's decoder and by
-// Change 2's. A call is handed over as nine words.
+// The codec for callers in C and Rust: decode, encode, and one after the other; what decodes, by document 01's decoder and by Change 2's. A call is
+// handed over as nine words.
 ghost use mathlib.Core.List.{List};
 ghost use mathlib.Core.Path.{_≡_};
 ghost use Prim.Native.Nat.{ℕ};
@@ -9,18 +9,19 @@ ghost use Rattle.answers.specs.Told.{refusalIn};
 ghost use Rattle.decode_definition.specs.Decode.{decodeOf, decodeSmccc};
 ghost use Rattle.encode.specs.Answers.{encodeAnswer};
 ghost use Rattle.roundtrip.specs.Recode.{recodeOf, recodeSmccc};
-ghost use Rattle.call_exports.specs.CallWords.{callWords};
+ghost use Rattle.call_exports.specs.NineWords.{nineWords};
 ghost use Rattle.call_exports.specs.Exports.{stored, encodeWords};
 
 pub mod call_asked;
-pub mod call_words;
 pub mod from_parts;
+pub mod low_bits;
+pub mod nine_words;
 pub mod parts;
-pub mod plain_words;
+pub mod same_words;
 
 use crate::call_asked::Asked;
 use crate::call_asked::call_asked;
-use crate::call_words::call_words;
+use crate::nine_words::nine_words;
 use answers::told::Refusal;
 use answers::told::accepted_words;
 use answers::told::refusal_of;
@@ -60,12 +61,12 @@ pub fn told_words(answer: EncodeResult) -> Refusal
 // The nine words of the call that four registers make. Refused with decode's numbers, 1 to 8; the lent words are then as they were.
 #[no_mangle]
 pub extern "C" fn psci_decode(regs: &[u64; 4], out: &mut [u64; 9]) -> Refusal
-    ensures { λ r. ⌜ (r ≡ refusalIn (decodeOf (now (regs .entry)))) × (now (out .exit) ≡ left (through callWords (decodeOf (now (regs .entry)))) (now (out .entry))) ⌝ }
+    ensures { λ r. ⌜ (r ≡ refusalIn (decodeOf (now (regs .entry)))) × (now (out .exit) ≡ left (through nineWords (decodeOf (now (regs .entry)))) (now (out .entry))) ⌝ }
 {
     let r = *regs;
     match decode::decode(r) {
         FunctionResult::Ok(function) => {
-            store(call_words(function), out);
+            store(nine_words(function), out);
             accepted_words()
         }
         FunctionResult::Err(error) => refusal_of(error),
@@ -76,12 +77,12 @@ pub extern "C" fn psci_decode(regs: &[u64; 4], out: &mut [u64; 9]) -> Refusal
 // `decode_smccc` itself: the compiler copies an answer that comes through two functions (docs/BENCHMARKS.md).
 #[no_mangle]
 pub extern "C" fn psci_decode_smccc(regs: &[u64; 4], out: &mut [u64; 9]) -> Refusal
-    ensures { λ r. ⌜ (r ≡ refusalIn (decodeSmccc (now (regs .entry)))) × (now (out .exit) ≡ left (through callWords (decodeSmccc (now (regs .entry)))) (now (out .entry))) ⌝ }
+    ensures { λ r. ⌜ (r ≡ refusalIn (decodeSmccc (now (regs .entry)))) × (now (out .exit) ≡ left (through nineWords (decodeSmccc (now (regs .entry)))) (now (out .entry))) ⌝ }
 {
     let r = *regs;
     match decode::decode(low_half_for_protect(r)) {
         FunctionResult::Ok(function) => {
-            store(call_words(function), out);
+            store(nine_words(function), out);
             accepted_words()
         }
         FunctionResult::Err(error) => refusal_of(error),

@@ -1,4 +1,4 @@
-// The line of a record over plain words, for the benchmark and callers in C.
+// The line of a record, for the benchmark and callers in C.
 ghost use mathlib.Core.Path.{_≡_};
 ghost use lib.ListN.{length};
 ghost use Rattle.answers.specs.Answers.{through};

@@ -12,7 +12,7 @@ use Rattle.answers.proofs.Lending.{fronted-all}
 use Rattle.words.specs.declared.mpidrs.Mpidr.{Mpidr}
 use Rattle.mpidr_bench.specs.Exports.{affinityWords}
 
--- an answer told in plain words, with what stands in the lent run before and after
+-- an answer as it is told to C, with what stands in the lent run before and after
 abbrev pub Told : Answer Mpidr → List ℕ → Refusal → List ℕ → Type 0
 Told answer run r last = (r ≡ refusalIn answer) × (last ≡ left (through affinityWords answer) run)
 

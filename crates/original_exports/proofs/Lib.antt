@@ -1,2 +1,2 @@
 pub mod OriginalAskedLaws
-pub mod OriginalNineWords
+pub mod OriginalNineWordsLaws

@@ -12,13 +12,13 @@ use Rattle.call_exports.specs.CallAsked.{callAt}
 use Rattle.original_calls.specs.OriginalFunctions.{withState}
 use Rattle.original_calls.specs.declared.original_function.OriginalFunction.{OriginalFunction}
 use Rattle.original_calls.specs.declared.original_function.OriginalFunction.the-variants.{CpuSuspend}
-use Rattle.original_exports.specs.OriginalWords.{originalWords}
+use Rattle.original_exports.specs.OriginalNineWords.{originalNineWords}
 use Rattle.original_exports.specs.OriginalAsked.{originalStateIn, originalAt}
 
 -- the words of a call are nine
-pub nine-words : (f : OriginalFunction) → length (originalWords f) ≡ 9
-unfolding originalWords
-nine-words f = refl
+pub nine-long : (f : OriginalFunction) → length (originalNineWords f) ≡ 9
+unfolding originalNineWords
+nine-long f = refl
 
 module _ (c : List ℕ) (tag : ℕ) where
   pub suspend-at : tag ≡ 1 →

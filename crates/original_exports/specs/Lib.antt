@@ -1,3 +1,3 @@
 pub mod OriginalAsked
 pub mod OriginalNineWords
-pub mod OriginalWords
+pub mod OriginalNineWordsLaws

@@ -7,7 +7,8 @@ use lib.IntN.{pos}
 use lib.ListN.{getD}
 use Rattle.answers.specs.Answers.{Answer, accepted, refused, through, andThen}
 use Rattle.words.specs.declared.original_power_states.OriginalPowerState.{OriginalPowerState}
-use Rattle.call_exports.specs.PlainWords.{half, byte, ofParts}
+use Rattle.call_exports.specs.LowBits.{half, byte}
+use Rattle.call_exports.specs.SameWords.{ofParts}
 use Rattle.call_exports.specs.FromParts.{entryIn}
 use Rattle.call_exports.specs.CallAsked.{callAt}
 use Rattle.call_exports.specs.Exports.{encodeAsked}
@@ -15,11 +16,11 @@ use Rattle.original_calls.specs.OriginalFunctions.{withState}
 use Rattle.original_calls.specs.OriginalCalls.{originalEncodeOf}
 use Rattle.original_calls.specs.declared.original_function.OriginalFunction.{OriginalFunction}
 use Rattle.original_calls.specs.declared.original_function.OriginalFunction.the-variants.{CpuSuspend}
-use Rattle.original_exports.specs.OriginalWords.{originalWords}
+use Rattle.original_exports.specs.OriginalNineWords.{originalNineWords}
 use Rattle.original_exports.specs.declared.original_asked.OriginalAsked.{OriginalAsked}
 use Rattle.original_exports.specs.declared.original_asked.OriginalAsked.the-variants.{Call, UnknownTag, WrongPart}
 
--- each part cut to its place
+-- each part cut to its slot
 abbrev pub originalStateIn : ℕ → ℕ → ℕ → OriginalPowerState
 originalStateIn down id level = record { «state_id» = half id; «power_down» = not (eqb down 0); level = byte level }
 
@@ -33,7 +34,7 @@ originalAt c tag =
 
 -- the call that nine words stand for; refusal 1003: they are not its words
 unfoldable pub originalAsked : List ℕ → Answer OriginalFunction
-originalAsked c = andThen (originalAt c (getD c 0 0)) (λ f. ofParts c (originalWords f) (accepted f))
+originalAsked c = andThen (originalAt c (getD c 0 0)) (λ f. ofParts c (originalNineWords f) (accepted f))
 
 abbrev pub originalAskedAnswer : OriginalAsked → Answer OriginalFunction
 originalAskedAnswer (Call f) = accepted f

@@ -1,20 +1,20 @@
-// The codec of boards that are set to the original power state over plain words, for callers in C and Rust: decode, encode, and one after the other. A
-// call is handed over as nine words.
+// The codec of boards that are set to the original power state, for callers in C and Rust: decode, encode, and one after the other. A call is handed
+// over as nine words.
 ghost use mathlib.Core.Path.{_≡_};
 ghost use Rattle.answers.specs.Answers.{through};
 ghost use Rattle.answers.specs.Lent.{left};
 ghost use Rattle.answers.specs.Told.{refusalIn};
 ghost use Rattle.original_calls.specs.OriginalCalls.{originalDecodeOf};
 ghost use Rattle.original_calls.specs.OriginalCodec.{recodeOriginal};
-ghost use Rattle.original_exports.specs.OriginalWords.{originalWords};
+ghost use Rattle.original_exports.specs.OriginalNineWords.{originalNineWords};
 ghost use Rattle.original_exports.specs.OriginalAsked.{encodeOriginalWords};
 
 pub mod original_asked;
-pub mod original_words;
+pub mod original_nine_words;
 
 use crate::original_asked::OriginalAsked;
 use crate::original_asked::original_asked;
-use crate::original_words::original_words;
+use crate::original_nine_words::original_nine_words;
 use answers::told::Refusal;
 use answers::told::accepted_words;
 use answers::told::refusal_of;
@@ -28,12 +28,12 @@ use original_calls::recode_original;
 // The nine words of the call that four registers make. Refused with decode's numbers, 1, 3 to 8 and 26; the lent words are then as they were.
 #[no_mangle]
 pub extern "C" fn psci_decode_original(regs: &[u64; 4], out: &mut [u64; 9]) -> Refusal
-    ensures { λ r. ⌜ (r ≡ refusalIn (originalDecodeOf (now (regs .entry)))) × (now (out .exit) ≡ left (through originalWords (originalDecodeOf (now (regs .entry)))) (now (out .entry))) ⌝ }
+    ensures { λ r. ⌜ (r ≡ refusalIn (originalDecodeOf (now (regs .entry)))) × (now (out .exit) ≡ left (through originalNineWords (originalDecodeOf (now (regs .entry)))) (now (out .entry))) ⌝ }
 {
     let r = *regs;
     match decode_original(r) {
         OriginalFunctionResult::Ok(function) => {
-            store(original_words(function), out);
+            store(original_nine_words(function), out);
             accepted_words()
         }
         OriginalFunctionResult::Err(error) => refusal_of(error),

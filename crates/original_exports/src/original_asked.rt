@@ -2,13 +2,13 @@
 ghost use mathlib.Core.Path.{_≡_};
 ghost use lib.ListN.{getD};
 ghost use Rattle.original_exports.specs.OriginalAsked.{originalStateIn, originalAt, originalAsked, originalAskedAnswer};
-use crate::original_words::original_words;
+use crate::original_nine_words::original_nine_words;
 use call_exports::call_asked::Asked;
 use call_exports::call_asked::call_at;
 use call_exports::from_parts::entry_in;
-use call_exports::plain_words::differing_bits;
-use call_exports::plain_words::low8;
-use call_exports::plain_words::low16;
+use call_exports::low_bits::low8;
+use call_exports::low_bits::low16;
+use call_exports::same_words::differing_bits;
 use original_calls::OriginalFunction;
 use words::OriginalPowerState;
 
@@ -30,7 +30,7 @@ fn original_state_in(down: u64, id: u64, level: u64) -> OriginalPowerState
     }
 }
 
-// The call of a tag, its parts cut to their places. A tag above 21 is unknown.
+// The call of a tag, its parts cut to their slots. A tag above 21 is unknown.
 fn original_at(c: [u64; 9]) -> OriginalAsked
     ensures { λ r. ⌜ originalAskedAnswer r ≡ originalAt c (getD c 0 0) ⌝ }
 {
@@ -51,13 +51,13 @@ fn original_at(c: [u64; 9]) -> OriginalAsked
 }
 
 // The call whose nine words these are. A tag above 21 is unknown; words that are not those of the call of their tag, as a part that has no
-// room in its place, are wrong.
+// room in its slot, are wrong.
 pub fn original_asked(c: [u64; 9]) -> OriginalAsked
     ensures { λ r. ⌜ originalAskedAnswer r ≡ originalAsked c ⌝ }
 {
     match original_at(c) {
         OriginalAsked::Call(function) => {
-            if differing_bits(c, original_words(function)) == 0 {
+            if differing_bits(c, original_nine_words(function)) == 0 {
                 OriginalAsked::Call(function)
             } else {
                 OriginalAsked::WrongPart

@@ -5,21 +5,21 @@ use crate::records::is_to_registers;
 use crate::records::nine_in;
 use crate::sweeps::SWEEP;
 use crate::sweeps::is_digest_same;
-use call_exports::plain_words::differing_bits;
+use call_exports::same_words::differing_bits;
 
-// Whether the answer to an operation writes the word at a place: a refusal writes its number and what it carries; the decoders and the readers
+// Whether the answer to an operation writes the word at an index: a refusal writes its number and what it carries; the decoders and the readers
 // write nine words; encode in either format writes four registers, every other operation one.
-fn is_written(op: u64, refused: bool, place: usize) -> bool {
-    if 14 <= place {
+fn is_written(op: u64, refused: bool, index: usize) -> bool {
+    if 14 <= index {
         return true;
     }
-    if refused || place == 0 {
+    if refused || index == 0 {
         return false;
     }
     if is_to_registers(op) {
-        place == 10 || ((op == 1 || op == 5) && 10 < place)
+        index == 10 || ((op == 1 || op == 5) && 10 < index)
     } else {
-        place < 10
+        index < 10
     }
 }
 

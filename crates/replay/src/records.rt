@@ -4,10 +4,10 @@ use answers::Error;
 use answers::WordResult;
 use answers::told::Refusal;
 use call_exports::parts::wide32;
-use call_exports::plain_words::differing_bits;
+use call_exports::same_words::differing_bits;
 
 // Refusals of the record itself, beside the papers': an operation that there is not, a tag that no call has, and a part that has no room
-// in its place.
+// in its slot.
 pub(crate) const UNKNOWN_OPERATION: u64 = 1001;
 
 pub(crate) const UNKNOWN_TAG: u64 = 1002;

@@ -54,7 +54,7 @@ fn show_refusal(number: u64, value: u64) {
     io::print_hex(1, value, 1);
 }
 
-// The words of a record from one place up to another.
+// The words of a record from one index up to another.
 fn show_words(w: [u64; 16], from: usize, to: usize) {
     let mut i = from;
     while i < to {

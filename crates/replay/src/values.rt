@@ -1,7 +1,10 @@
-// A single value as nine words, a 0, its parts and zeros; and the value that parts stand for, each part cut to its place. call_exports has
+// A single value as nine words, a 0, its parts and zeros; and the value that parts stand for, each part cut to its slot. call_exports has
 // the parts that a call has too.
 use answers::Error;
 use bits::signs;
+use call_exports::low_bits::low8;
+use call_exports::low_bits::low16;
+use call_exports::low_bits::low32;
 use call_exports::parts::down;
 use call_exports::parts::entry_of;
 use call_exports::parts::mpidr_and;
@@ -10,8 +13,6 @@ use call_exports::parts::three;
 use call_exports::parts::vendor;
 use call_exports::parts::vendor_type;
 use call_exports::parts::wide32;
-use call_exports::plain_words::low8;
-use call_exports::plain_words::low32;
 use codes::ErrorCode;
 use codes::ReturnCode;
 use function_ids::FunctionId;
@@ -26,10 +27,6 @@ use words::ResetType;
 use words::SuspendMode;
 use words::Version;
 use words::flag_word;
-
-fn low16(part: u64) -> u16 {
-    (part % 0x1_0000) as u16
-}
 
 // The index of a code among the nine, in the order of their numbers from -1 down.
 pub(crate) fn code_index(error_code: ErrorCode) -> u64 {

@@ -3,7 +3,7 @@ use crate::Error;
 use core::mem::{align_of, offset_of, size_of};
 
 /// The nine words of a call: its tag, then the parts of its fields in order, then zeros.
-pub type Words = [u64; 9];
+pub type NineWords = [u64; 9];
 
 /// 0 and 0, or a refusal's number and what it carries.
 #[repr(C)]
@@ -28,13 +28,13 @@ const _: () = assert!(offset_of!(Written, number) == 0 && offset_of!(Written, va
 
 // `&[T; n]` and `&mut [T; n]` are thin pointers.
 extern "C" {
-    fn psci_decode(regs: &[u64; 4], call: &mut Words) -> Refusal;
-    fn psci_decode_smccc(regs: &[u64; 4], call: &mut Words) -> Refusal;
-    fn psci_encode(call: &Words, out: &mut [u64; 4]) -> Refusal;
+    fn psci_decode(regs: &[u64; 4], call: &mut NineWords) -> Refusal;
+    fn psci_decode_smccc(regs: &[u64; 4], call: &mut NineWords) -> Refusal;
+    fn psci_encode(call: &NineWords, out: &mut [u64; 4]) -> Refusal;
     fn psci_recode(regs: &[u64; 4], out: &mut [u64; 4]) -> Refusal;
     fn psci_recode_smccc(regs: &[u64; 4], out: &mut [u64; 4]) -> Refusal;
-    fn psci_decode_original(regs: &[u64; 4], call: &mut Words) -> Refusal;
-    fn psci_encode_original(call: &Words, out: &mut [u64; 4]) -> Refusal;
+    fn psci_decode_original(regs: &[u64; 4], call: &mut NineWords) -> Refusal;
+    fn psci_encode_original(call: &NineWords, out: &mut [u64; 4]) -> Refusal;
     fn psci_recode_original(regs: &[u64; 4], out: &mut [u64; 4]) -> Refusal;
     fn psci_line(number: usize, regs: &[u64; 4], out: &mut [u8; 80]) -> Written;
 }
@@ -47,7 +47,7 @@ fn told(refusal: Refusal) -> Result<(), Error> {
 }
 
 /// The nine words of the call that four registers make.
-pub fn decode(regs: &[u64; 4]) -> Result<Words, Error> {
+pub fn decode(regs: &[u64; 4]) -> Result<NineWords, Error> {
     let mut call = [0; 9];
     // SAFETY: the function asks nothing of the words, and references have the length, the alignment and the aliasing that it needs.
     told(unsafe { psci_decode(regs, &mut call) })?;
@@ -55,7 +55,7 @@ pub fn decode(regs: &[u64; 4]) -> Result<Words, Error> {
 }
 
 /// The same, with the low half of r1 for memory protect.
-pub fn decode_smccc(regs: &[u64; 4]) -> Result<Words, Error> {
+pub fn decode_smccc(regs: &[u64; 4]) -> Result<NineWords, Error> {
     let mut call = [0; 9];
     // SAFETY: as in `decode`.
     told(unsafe { psci_decode_smccc(regs, &mut call) })?;
@@ -63,7 +63,7 @@ pub fn decode_smccc(regs: &[u64; 4]) -> Result<Words, Error> {
 }
 
 /// Writes the four words of a call; a refusal leaves `out` as it was.
-pub fn encode(call: &Words, out: &mut [u64; 4]) -> Result<(), Error> {
+pub fn encode(call: &NineWords, out: &mut [u64; 4]) -> Result<(), Error> {
     // SAFETY: as in `decode`.
     told(unsafe { psci_encode(call, out) })
 }
@@ -81,7 +81,7 @@ pub fn recode_smccc(regs: &[u64; 4], out: &mut [u64; 4]) -> Result<(), Error> {
 }
 
 /// The nine words of the call that four registers make in the original format.
-pub fn decode_original(regs: &[u64; 4]) -> Result<Words, Error> {
+pub fn decode_original(regs: &[u64; 4]) -> Result<NineWords, Error> {
     let mut call = [0; 9];
     // SAFETY: as in `decode`.
     told(unsafe { psci_decode_original(regs, &mut call) })?;
@@ -89,7 +89,7 @@ pub fn decode_original(regs: &[u64; 4]) -> Result<Words, Error> {
 }
 
 /// Writes the four words of a call of the original format; a refusal leaves `out` as it was.
-pub fn encode_original(call: &Words, out: &mut [u64; 4]) -> Result<(), Error> {
+pub fn encode_original(call: &NineWords, out: &mut [u64; 4]) -> Result<(), Error> {
     // SAFETY: as in `decode`.
     told(unsafe { psci_encode_original(call, out) })
 }

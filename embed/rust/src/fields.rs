@@ -1,11 +1,11 @@
 //! The fields of a call. A field is read from a word as that of a call which has it in r1, and written as that call's second word, so that both
 //! go through the archives; only an enum without data is written as the number that it has in Rust.
-use crate::archive::{self, Words};
+use crate::archive::{self, NineWords};
 use crate::parts;
 use crate::{Error, Function, FunctionId};
 
 /// The nine words of the call of that number with `word` in r1 and 0 in the other registers.
-fn call_with(id: FunctionId, word: u64) -> Result<Words, Error> {
+fn call_with(id: FunctionId, word: u64) -> Result<NineWords, Error> {
     archive::decode(&[u32::from(id).into(), word, 0, 0])
 }
 

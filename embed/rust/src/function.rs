@@ -1,5 +1,5 @@
 //! The typed call.
-use crate::archive::{self, Words};
+use crate::archive::{self, NineWords};
 use crate::parts;
 use crate::{Cookie, EntryPoint, Error, FunctionId, MemProtectRange, Mpidr, PowerState, PsciFeature, ResetType, SuspendMode, SystemOff2Type};
 
@@ -36,7 +36,7 @@ impl TryFrom<&[u64; 4]> for Function {
 
     /// The call that four registers make.
     fn try_from(regs: &[u64; 4]) -> Result<Self, Error> {
-        from_words(&archive::decode(regs)?)
+        from_nine_words(&archive::decode(regs)?)
     }
 }
 
@@ -52,13 +52,13 @@ impl Function {
     /// The call that four registers make, by the SMC Calling Convention: memory protect is enabled by the low half of r1, where `try_from` and
     /// arm-psci look at all of it. Every other call, and every refusal, is `try_from`'s. A sheet's lines are written by this.
     pub fn try_from_smccc(regs: &[u64; 4]) -> Result<Self, Error> {
-        from_words(&archive::decode_smccc(regs)?)
+        from_nine_words(&archive::decode_smccc(regs)?)
     }
 
     /// The function ID for the call. A CPU on whose MPIDR and entry point differ in form is refused; arm-psci panics.
     pub fn function_id(&self) -> Result<FunctionId, Error> {
         let mut words = [0; 4];
-        archive::encode(&words_of(&self.with_sure_fields()), &mut words)?;
+        archive::encode(&nine_words(&self.with_sure_fields()), &mut words)?;
         FunctionId::try_from(words[0] as u32)
     }
 
@@ -66,7 +66,7 @@ impl Function {
     /// differ in form, and a state ID above 0x0fff_ffff, are refused, and `a` stays as it was; arm-psci clears it and panics. So is a vendor's reset
     /// type above 0x7fff_ffff; arm-psci writes it as the type without bit 31.
     pub fn copy_to_array(&self, a: &mut [u64; 4]) -> Result<(), Error> {
-        archive::encode(&words_of(self), a)
+        archive::encode(&nine_words(self), a)
     }
 
     /// The call with a power state or a reset type that can be written: the function ID does not depend on them.
@@ -95,7 +95,7 @@ pub fn recode_smccc(regs: &[u64; 4], out: &mut [u64; 4]) -> Result<(), Error> {
 }
 
 /// A tag and the parts of two fields, then zeros.
-pub(crate) fn tagged<const N: usize, const M: usize>(tag: u64, first: [u64; N], second: [u64; M]) -> Words {
+pub(crate) fn tagged<const N: usize, const M: usize>(tag: u64, first: [u64; N], second: [u64; M]) -> NineWords {
     let mut words = [0; 9];
     let parts = [tag].into_iter().chain(first).chain(second);
     words.iter_mut().zip(parts).for_each(|(word, part)| *word = part);
@@ -103,7 +103,7 @@ pub(crate) fn tagged<const N: usize, const M: usize>(tag: u64, first: [u64; N], 
 }
 
 /// The nine words of a call.
-pub(crate) fn words_of(call: &Function) -> Words {
+pub(crate) fn nine_words(call: &Function) -> NineWords {
     use Function as F;
     match *call {
         F::Version => tagged(0, [], []),
@@ -132,7 +132,7 @@ pub(crate) fn words_of(call: &Function) -> Words {
 }
 
 /// The call of nine words. A tag above 21 is refused; the archives give none.
-pub(crate) fn from_words(words: &Words) -> Result<Function, Error> {
+pub(crate) fn from_nine_words(words: &NineWords) -> Result<Function, Error> {
     use Function as F;
     let p = &words[1..];
     Ok(match words[0] {

@@ -1,6 +1,6 @@
 //! Boards that are set to the original power state: its word, the typed call, and both ways through the archive. arm-psci lacks this format.
-use crate::archive::{self, Words};
-use crate::function::{from_words, tagged, words_of};
+use crate::archive::{self, NineWords};
+use crate::function::{from_nine_words, nine_words, tagged};
 use crate::parts;
 use crate::{Cookie, EntryPoint, Error, Function, FunctionId, MemProtectRange, Mpidr, PsciFeature, ResetType, SuspendMode, SystemOff2Type};
 
@@ -87,7 +87,7 @@ stateless! {
     SetSuspendMode { mode: SuspendMode },
 }
 
-/// PSCI requests and their arguments, the power states in the original format. No call with a power state of the extended format has a place in it.
+/// PSCI requests and their arguments, the power states in the original format. No call with a power state of the extended format is one of them.
 #[derive(Debug, Eq, PartialEq, Clone, Copy)]
 #[allow(missing_docs)]
 pub enum OriginalFunction {
@@ -102,7 +102,7 @@ impl TryFrom<&[u64; 4]> for OriginalFunction {
 
     /// The call that four registers make. Memory protect looks at all of r1, as by `Function::try_from`.
     fn try_from(regs: &[u64; 4]) -> Result<Self, Error> {
-        Self::from_words(&archive::decode_original(regs)?)
+        Self::from_nine_words(&archive::decode_original(regs)?)
     }
 }
 
@@ -125,7 +125,7 @@ impl OriginalFunction {
     /// Writes the call's four words: the function ID, the arguments in their registers, zero elsewhere. A CPU on whose MPIDR and entry point
     /// differ in form, a level above 3 and a vendor's reset type above 0x7fff_ffff are refused, and `a` stays as it was.
     pub fn copy_to_array(&self, a: &mut [u64; 4]) -> Result<(), Error> {
-        archive::encode_original(&self.words(), a)
+        archive::encode_original(&self.nine_words(), a)
     }
 
     /// The call with a power state or a reset type that can be written: the function ID does not depend on them.
@@ -141,23 +141,23 @@ impl OriginalFunction {
     }
 
     /// The nine words of the call.
-    fn words(&self) -> Words {
+    fn nine_words(&self) -> NineWords {
         match *self {
             Self::CpuSuspend { state, entry } => tagged(1, parts::of_original_power_state(state), parts::of_entry(entry)),
             Self::StatResidency { target_cpu, power_state } => tagged(20, parts::of_mpidr(target_cpu), parts::of_original_power_state(power_state)),
             Self::StatCount { target_cpu, power_state } => tagged(21, parts::of_mpidr(target_cpu), parts::of_original_power_state(power_state)),
-            Self::Other(call) => words_of(&call.into()),
+            Self::Other(call) => nine_words(&call.into()),
         }
     }
 
     /// The call of nine words. A tag above 21 is refused; the archives give none.
-    fn from_words(words: &Words) -> Result<Self, Error> {
+    fn from_nine_words(words: &NineWords) -> Result<Self, Error> {
         let p = &words[1..];
         Ok(match words[0] {
             1 => Self::CpuSuspend { state: parts::original_power_state(p), entry: parts::entry(&p[3..]) },
             20 => Self::StatResidency { target_cpu: parts::mpidr(p), power_state: parts::original_power_state(&p[5..]) },
             21 => Self::StatCount { target_cpu: parts::mpidr(p), power_state: parts::original_power_state(&p[5..]) },
-            tag => match StatelessFunction::of(from_words(words)?) {
+            tag => match StatelessFunction::of(from_nine_words(words)?) {
                 Some(call) => Self::Other(call),
                 None => return Err(Error::Unnamed { number: parts::UNKNOWN_TAG, value: tag }),
             },

@@ -1,11 +1,11 @@
 //! The parts in which the archives hand over the fields of a call, embed/include/psci.h's enum psci_part. Nothing is decided here: a part goes
-//! to its place and back, cut to the width that it has there: `of_mpidr` gives the parts of an MPIDR, `mpidr` the MPIDR of its parts, and so on.
+//! to its slot and back, cut to the bits that its slot has: `of_mpidr` gives the parts of an MPIDR, `mpidr` the MPIDR of its parts, and so on.
 //! A reader takes at least as many parts as the field has. All of it is inlined, so that the compiler sees the parts to be there and leaves
 //! no path to a panic.
 use crate::{ArchitecturalResetType, Cookie, EntryPoint, Error, FunctionId, MemProtectRange, Mpidr, OriginalPowerState, PowerState, PsciFeature};
 use crate::{ResetType, SuspendMode};
 
-/// The exports' own refusals: a tag that no call has, a part that has no room in its place.
+/// The exports' own refusals: a tag that no call has, a part that has no room in its slot.
 pub const UNKNOWN_TAG: u64 = 1002;
 const WRONG_PART: u64 = 1003;
 

@@ -3,8 +3,8 @@
 use rampcomfrey as psci;
 
 #[allow(dead_code)]
-#[path = "../../../oracle/harness/src/flat.rs"]
-mod flat;
+#[path = "../../../oracle/harness/src/nine_words.rs"]
+mod nine_words;
 
 use psci::{Error, Function, FunctionId, OriginalFunction, OriginalPowerState, StatelessFunction};
 
@@ -56,24 +56,24 @@ fn refusal(error: Error) -> [u64; 2] {
 }
 
 /// The nine words of a call of the original format: a power state is power down, state ID and level.
-fn original_words(call: OriginalFunction) -> flat::Flat {
+fn original_nine_words(call: OriginalFunction) -> nine_words::NineWords {
     let parts = |state: OriginalPowerState| [state.power_down.into(), state.state_id.into(), state.level.into()];
-    let words = |tag, first: &[u64], second: &[u64]| flat::flat(tag, &[first, second].concat());
+    let words = |tag, first: &[u64], second: &[u64]| nine_words::nine_words(tag, &[first, second].concat());
     match call {
-        OriginalFunction::CpuSuspend { state, entry } => words(1, &parts(state), &flat::entry(entry)),
-        OriginalFunction::StatResidency { target_cpu, power_state } => words(20, &flat::mpidr(target_cpu), &parts(power_state)),
-        OriginalFunction::StatCount { target_cpu, power_state } => words(21, &flat::mpidr(target_cpu), &parts(power_state)),
-        OriginalFunction::Other(call) => flat::call(call.into()),
+        OriginalFunction::CpuSuspend { state, entry } => words(1, &parts(state), &nine_words::entry(entry)),
+        OriginalFunction::StatResidency { target_cpu, power_state } => words(20, &nine_words::mpidr(target_cpu), &parts(power_state)),
+        OriginalFunction::StatCount { target_cpu, power_state } => words(21, &nine_words::mpidr(target_cpu), &parts(power_state)),
+        OriginalFunction::Other(call) => nine_words::call(call.into()),
     }
 }
 
 /// The call of nine words. A call without a power state is read from the registers that it is written as, but for the three that can be refused when
 /// they are written, or when that is read.
-fn to_original(words: &flat::Flat) -> OriginalFunction {
+fn to_original(words: &nine_words::NineWords) -> OriginalFunction {
     let p = &words[1..];
     let state = |p: &[u64]| OriginalPowerState { power_down: p[0] != 0, state_id: p[1] as u16, level: p[2] as u8 };
-    match flat::to_call(words) {
-        Function::CpuSuspend { .. } => OriginalFunction::CpuSuspend { state: state(p), entry: flat::to_entry(&p[3..]) },
+    match nine_words::to_call(words) {
+        Function::CpuSuspend { .. } => OriginalFunction::CpuSuspend { state: state(p), entry: nine_words::to_entry(&p[3..]) },
         Function::StatResidency { target_cpu, .. } => OriginalFunction::StatResidency { target_cpu, power_state: state(&p[5..]) },
         Function::StatCount { target_cpu, .. } => OriginalFunction::StatCount { target_cpu, power_state: state(&p[5..]) },
         Function::CpuOn { target_cpu, entry } => OriginalFunction::Other(StatelessFunction::CpuOn { target_cpu, entry }),
@@ -106,12 +106,12 @@ fn agrees(record: &Record) -> Option<bool> {
         lent == if told.is_ok() { regs } else { wrong } && same(told.map(|()| true))
     };
     Some(match record[0] {
-        DECODE => same(Function::try_from(&regs).map(|f| flat::call(f) == *call)),
-        DECODE_SMCCC => same(Function::try_from_smccc(&regs).map(|f| flat::call(f) == *call)),
-        DECODE_ORIGINAL => same(OriginalFunction::try_from(&regs).map(|f| original_words(f) == *call)),
-        ENCODE => written(&|lent| flat::to_call(call).copy_to_array(lent)),
+        DECODE => same(Function::try_from(&regs).map(|f| nine_words::call(f) == *call)),
+        DECODE_SMCCC => same(Function::try_from_smccc(&regs).map(|f| nine_words::call(f) == *call)),
+        DECODE_ORIGINAL => same(OriginalFunction::try_from(&regs).map(|f| original_nine_words(f) == *call)),
+        ENCODE => written(&|lent| nine_words::to_call(call).copy_to_array(lent)),
         ENCODE_ORIGINAL => written(&|lent| to_original(call).copy_to_array(lent)),
-        FUNCTION_ID => same(flat::to_call(call).function_id().map(is_first)),
+        FUNCTION_ID => same(nine_words::to_call(call).function_id().map(is_first)),
         FUNCTION_ID_ORIGINAL => same(to_original(call).function_id().map(is_first)),
         _ => return None,
     })

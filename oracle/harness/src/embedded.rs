@@ -1,11 +1,11 @@
-//! The crate in embed/rust, over the proved archives. That answers.rs and flat.rs build over it as over arm-psci shows that the types, variants and
-//! methods which they use have the same names, but for the departures.
+//! The crate in embed/rust, over the proved archives. That answers.rs and nine_words.rs build over it as over arm-psci shows that the types, variants
+//! and methods which they use have the same names, but for the departures.
 pub use rampcomfrey as psci;
 
 #[path = "answers.rs"]
 pub mod answers;
-#[path = "flat.rs"]
-pub mod flat;
+#[path = "nine_words.rs"]
+pub mod nine_words;
 #[path = "embedded_original.rs"]
 mod original;
 

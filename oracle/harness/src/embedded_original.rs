@@ -1,6 +1,6 @@
 //! The answers of embed/rust to the operations of Change 1, which arm-psci lacks. Nine words that stand for no call have the record's own refusals.
 use super::answers::{No, refusal};
-use super::flat::{Flat, call, entry, flat, mpidr, to_call, to_entry};
+use super::nine_words::{NineWords, call, entry, mpidr, nine_words, to_call, to_entry};
 use crate::{NO_PART, NO_TAG, Record, op};
 use rampcomfrey::{Function, OriginalFunction, OriginalPowerState, StatelessFunction};
 
@@ -9,16 +9,16 @@ fn parts(state: OriginalPowerState) -> [u64; 3] {
     [state.power_down.into(), state.state_id.into(), state.level.into()]
 }
 
-/// Cut to their places.
+/// Cut to their slots.
 fn to_state(p: &[u64]) -> OriginalPowerState {
     OriginalPowerState { power_down: p[0] != 0, state_id: p[1] as u16, level: p[2] as u8 }
 }
 
-fn words(f: OriginalFunction) -> Flat {
+fn words(f: OriginalFunction) -> NineWords {
     match f {
-        OriginalFunction::CpuSuspend { state, entry: e } => flat(1, &[parts(state), entry(e)].concat()),
-        OriginalFunction::StatResidency { target_cpu, power_state } => flat(20, &[&mpidr(target_cpu)[..], &parts(power_state)].concat()),
-        OriginalFunction::StatCount { target_cpu, power_state } => flat(21, &[&mpidr(target_cpu)[..], &parts(power_state)].concat()),
+        OriginalFunction::CpuSuspend { state, entry: e } => nine_words(1, &[parts(state), entry(e)].concat()),
+        OriginalFunction::StatResidency { target_cpu, power_state } => nine_words(20, &[&mpidr(target_cpu)[..], &parts(power_state)].concat()),
+        OriginalFunction::StatCount { target_cpu, power_state } => nine_words(21, &[&mpidr(target_cpu)[..], &parts(power_state)].concat()),
         OriginalFunction::Other(other) => call(other.into()),
     }
 }
@@ -33,7 +33,7 @@ macro_rules! same_call {
     };
 }
 
-fn to_original(w: &Flat) -> OriginalFunction {
+fn to_original(w: &NineWords) -> OriginalFunction {
     let p = &w[1..];
     match to_call(w) {
         Function::CpuSuspend { .. } => OriginalFunction::CpuSuspend { state: to_state(p), entry: to_entry(&p[3..]) },
@@ -50,7 +50,7 @@ fn to_original(w: &Flat) -> OriginalFunction {
 }
 
 /// The call that a record asks with, or the record's own refusal of its words.
-fn asked(w: &Flat) -> Result<OriginalFunction, No> {
+fn asked(w: &NineWords) -> Result<OriginalFunction, No> {
     if w[0] > 21 {
         return Err((NO_TAG, w[0]));
     }
@@ -59,9 +59,9 @@ fn asked(w: &Flat) -> Result<OriginalFunction, No> {
 }
 
 /// The word of the power state that a record asks with.
-fn written(w: &Flat) -> Result<u32, No> {
+fn written(w: &NineWords) -> Result<u32, No> {
     let state = to_state(&w[1..]);
-    if flat(0, &parts(state)) != *w {
+    if nine_words(0, &parts(state)) != *w {
         return Err((NO_PART, 0));
     }
     u32::try_from(state).map_err(refusal)
@@ -77,7 +77,7 @@ pub fn answer(q: &Record) -> Record {
             asked(&q.call).and_then(|f| f.function_id().map_err(refusal)).map(|id| a.regs[0] = u32::from(id).into())
         }
         op::READ_POWER_STATE_ORIGINAL => {
-            OriginalPowerState::try_from(q.regs[0] as u32).map(|state| a.call = flat(0, &parts(state))).map_err(refusal)
+            OriginalPowerState::try_from(q.regs[0] as u32).map(|state| a.call = nine_words(0, &parts(state))).map_err(refusal)
         }
         _ => written(&q.call).map(|word| a.regs[0] = word.into()),
     };

@@ -1,5 +1,5 @@
 //! Questions: boundary values in full, then seeded random ones. What an answer must leave as it is holds odd words.
-use crate::flat::*;
+use crate::nine_words::*;
 use crate::{Record, op, original};
 use arm_psci::FunctionId;
 
@@ -74,7 +74,7 @@ pub fn sparse() -> impl Iterator<Item = u64> {
 }
 
 /// Nine words that no value has.
-fn odd(salt: u64) -> Flat {
+fn odd(salt: u64) -> NineWords {
     [1, 2, 3, 4, 5, 6, 7, 8, 9].map(|i| (salt ^ i).wrapping_mul(0x9e37_79b9_7f4a_7c15) | 1 << 63)
 }
 
@@ -342,7 +342,7 @@ fn some_part(part: Part, rng: &mut Rng, out: &mut Vec<u64>) {
 /// `op` over `tag` with the parts, onto registers that a refusal must leave.
 fn ask_call(op: u64, tag: u64, parts: &[u64], salt: u64, ask: &mut dyn FnMut(Record)) {
     let regs = [salt, !salt, salt.rotate_left(17), salt ^ 0x5555_5555_5555_5555];
-    ask(Record { op, call: flat(tag, parts), regs, ..Record::default() });
+    ask(Record { op, call: nine_words(tag, parts), regs, ..Record::default() });
 }
 
 /// All combinations of the boundary values of each call's parts, with its tag.
@@ -409,7 +409,7 @@ pub fn encode_random(seed: u64, count: u64, ask: &mut dyn FnMut(Record)) {
 pub fn encode_original_random(seed: u64, count: u64, ask: &mut dyn FnMut(Record)) {
     encode_some(&PARTS_ORIGINAL, [op::ENCODE_ORIGINAL, op::FUNCTION_ID_ORIGINAL], seed, count, &mut |q| {
         ask(q);
-        if let Some(at) = original::place(q.call[0]) {
+        if let Some(at) = original::state_at(q.call[0]) {
             ask_call(op::WRITE_POWER_STATE_ORIGINAL, 0, &q.call[at..at + 3], q.regs[0], ask);
         }
     });
@@ -499,10 +499,10 @@ pub fn malformed(ask: &mut dyn FnMut(Record)) {
         for (op, tag, parts) in all.iter().copied() {
             let mut words = Vec::new();
             parts.iter().for_each(|part| some_part(*part, &mut Rng(seed), &mut words));
-            for place in 1..9 {
+            for part in 1..9 {
                 for bit in [0, 8, 16, 31, 32, 63] {
-                    let mut call = flat(tag, &words);
-                    call[place] ^= 1 << bit;
+                    let mut call = nine_words(tag, &words);
+                    call[part] ^= 1 << bit;
                     ask(Record { op, call, regs: [seed, !seed, 1, 2], ..Record::default() });
                 }
             }

@@ -1,7 +1,7 @@
 //! The Rust codec, unchanged, as the judge. A `Record` is a question with its answer: an operation, a call or a single value as
 //! nine words, four registers, a refusal and what it carries. `oracle` answers it from the Rust, a power state of the original format from
 //! linux/psci.h (original.rs); the program `replay` answers the same, and so does `embedded::answers::answer` from the crate in embed/rust.
-#![allow(clippy::duplicate_mod)] // answers.rs and flat.rs are read over two crates
+#![allow(clippy::duplicate_mod)] // answers.rs and nine_words.rs are read over two crates
 
 #[cfg(feature = "rattle")]
 pub mod embedded;
@@ -17,14 +17,14 @@ pub mod tally;
 
 pub use published::answers::{answer as oracle, refusal};
 pub use published::departures::{MEM_PROTECT, low_half_for_protect, quiet_panics};
-pub use published::flat;
+pub use published::nine_words;
 
-use flat::Flat;
+use nine_words::NineWords;
 
 #[derive(Clone, Copy, Debug, Default, Eq, PartialEq)]
 pub struct Record {
     pub op: u64,
-    pub call: Flat,
+    pub call: NineWords,
     pub regs: [u64; 4],
     pub refusal: u64,
     pub carried: u64,
@@ -46,8 +46,8 @@ impl Record {
     /// The record as 128 bytes, each word big-endian.
     pub fn bytes(&self) -> [u8; 8 * WORDS] {
         let mut out = [0; 8 * WORDS];
-        for (place, word) in out.chunks_exact_mut(8).zip(self.words()) {
-            place.copy_from_slice(&word.to_be_bytes());
+        for (bytes, word) in out.chunks_exact_mut(8).zip(self.words()) {
+            bytes.copy_from_slice(&word.to_be_bytes());
         }
         out
     }
@@ -106,7 +106,7 @@ pub mod op {
         [DECODE_ORIGINAL, ENCODE_ORIGINAL, FUNCTION_ID_ORIGINAL, READ_POWER_STATE_ORIGINAL, WRITE_POWER_STATE_ORIGINAL];
 }
 
-/// A record's own refusals, beside the papers': no such operation, no such tag, a part that has no room in its place.
+/// A record's own refusals, beside the papers': no such operation, no such tag, a part that has no room in its slot.
 pub const NO_OPERATION: u64 = 1001;
 pub const NO_TAG: u64 = 1002;
 pub const NO_PART: u64 = 1003;

@@ -6,7 +6,7 @@
 //! one that it refuses where this word is refused, else one that it accepts. So which refusal comes first is the Rust's too: where it says 2 or 15,
 //! the answer is 26 or 27. A call without a power state is the Rust's answer as it is.
 use crate::published::answers::No;
-use crate::published::flat::{Flat, flat};
+use crate::published::nine_words::{NineWords, nine_words};
 use crate::{NO_PART, Record, op, oracle};
 
 const PSCI_0_2_FN_CPU_SUSPEND: u32 = 0x8400_0001;
@@ -75,7 +75,7 @@ pub fn register(r0: u64) -> Option<usize> {
 }
 
 /// Where the parts of the power state begin in the nine words of a call with this tag: of suspend, residency and count.
-pub fn place(tag: u64) -> Option<usize> {
+pub fn state_at(tag: u64) -> Option<usize> {
     match tag {
         1 => Some(1),
         20 | 21 => Some(6),
@@ -84,8 +84,8 @@ pub fn place(tag: u64) -> Option<usize> {
 }
 
 /// The Rust's nine words, of two parts for its power state, with these three in their place.
-fn with_three(words: &Flat, parts: &[u64; 3]) -> Flat {
-    let at = place(words[0]).expect("a call with a power state");
+fn with_three(words: &NineWords, parts: &[u64; 3]) -> NineWords {
+    let at = state_at(words[0]).expect("a call with a power state");
     assert_eq!(words[at..at + 2], [0, ACCEPTED.into()], "the Rust read another word");
     let mut out = *words;
     out.copy_within(at + 2..8, at + 3);
@@ -94,7 +94,7 @@ fn with_three(words: &Flat, parts: &[u64; 3]) -> Flat {
 }
 
 /// Nine words of three parts with two for the Rust in their place: standby, and this state ID.
-fn with_two(words: &Flat, at: usize, id: u64) -> Flat {
+fn with_two(words: &NineWords, at: usize, id: u64) -> NineWords {
     let mut out = *words;
     out[at..at + 2].copy_from_slice(&[0, id]);
     out.copy_within(at + 3.., at + 2);
@@ -128,7 +128,7 @@ fn decode(q: &Record) -> Record {
 /// Encode and the function number.
 fn encode(q: &Record) -> Record {
     let asked = Record { op: if q.op == op::ENCODE_ORIGINAL { op::ENCODE } else { op::FUNCTION_ID }, ..*q };
-    let Some(at) = place(q.call[0]) else { return rust(q, asked) };
+    let Some(at) = state_at(q.call[0]) else { return rust(q, asked) };
     let word = write(&q.call[at..at + 3]);
     if let Err(no @ (NO_PART, _)) = word {
         return refused(q, no);
@@ -149,7 +149,7 @@ fn encode(q: &Record) -> Record {
 
 fn read_word(q: &Record) -> Record {
     match read(q.regs[0] as u32) {
-        Ok(parts) => Record { call: flat(0, &parts), refusal: 0, carried: 0, ..*q },
+        Ok(parts) => Record { call: nine_words(0, &parts), refusal: 0, carried: 0, ..*q },
         Err(no) => refused(q, no),
     }
 }
@@ -169,7 +169,7 @@ fn write_word(q: &Record) -> Record {
 pub fn has_state(q: &Record) -> bool {
     match q.op {
         op::DECODE_ORIGINAL => register(q.regs[0]).is_some(),
-        op::ENCODE_ORIGINAL | op::FUNCTION_ID_ORIGINAL => place(q.call[0]).is_some(),
+        op::ENCODE_ORIGINAL | op::FUNCTION_ID_ORIGINAL => state_at(q.call[0]).is_some(),
         op => op::ORIGINAL.contains(&op),
     }
 }

@@ -3,8 +3,8 @@ pub use arm_psci as psci;
 
 #[path = "answers.rs"]
 pub mod answers;
-#[path = "flat.rs"]
-pub mod flat;
+#[path = "nine_words.rs"]
+pub mod nine_words;
 
 /// Where the Rust panics, document 01 refuses: 14 carries nothing, 15 the state ID, 16 the major. Before a panic the Rust has cleared the four
 /// words; a refusal leaves them. Where the Rust merges bit 31 of a vendor type, document 02 (Change 5) refuses: 31 carries the type. Change 2's

@@ -1,6 +1,6 @@
 //! What the Rust does where document 02 departs from it: docs/DIFFERENCES.md. And what of Change 1's format is the Rust's, what linux/psci.h's.
 use arm_psci::{Cookie, Error, Function, PowerState, ResetType};
-use harness::flat::{Flat, call};
+use harness::nine_words::{NineWords, call};
 use harness::original::{self, ACCEPTED, REFUSED};
 use harness::{Record, inputs, low_half_for_protect, op, oracle, quiet_panics, refusal};
 
@@ -49,12 +49,12 @@ fn the_original_power_state_is_not_the_rusts() {
     assert_eq!(PowerState::try_from(REFUSED), Err(Error::InvalidPowerState(REFUSED)));
 }
 
-fn decoded(regs: [u64; 4]) -> Result<Flat, (u64, u64)> {
+fn decoded(regs: [u64; 4]) -> Result<NineWords, (u64, u64)> {
     let got = oracle(&Record { op: op::DECODE_ORIGINAL, regs, ..Record::default() });
     if got.refusal == 0 { Ok(got.call) } else { Err((got.refusal, got.carried)) }
 }
 
-fn encoded(call: Flat) -> Result<[u64; 4], (u64, u64)> {
+fn encoded(call: NineWords) -> Result<[u64; 4], (u64, u64)> {
     quiet_panics();
     let got = oracle(&Record { op: op::ENCODE_ORIGINAL, call, ..Record::default() });
     if got.refusal == 0 { Ok(got.regs) } else { Err((got.refusal, got.carried)) }
@@ -105,8 +105,8 @@ fn without_a_power_state_all_is_the_rusts() {
 }
 
 /// The words of a call but for the parts of its power state.
-fn besides(words: &Flat, parts: usize) -> Vec<u64> {
-    let at = original::place(words[0]).unwrap();
+fn besides(words: &NineWords, parts: usize) -> Vec<u64> {
+    let at = original::state_at(words[0]).unwrap();
     [&words[..at], &words[at + parts..6 + parts]].concat()
 }
 

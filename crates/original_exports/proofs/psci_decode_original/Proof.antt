@@ -6,21 +6,21 @@ use borrow.Author.Needs.{needs}
 use Rattle.call_exports.specs.Exports.{stored}
 use Rattle.call_exports.proofs.ExportLaws.{told-call, told-refusal}
 use Rattle.original_calls.specs.OriginalFunctions.{originalAnswer}
-use Rattle.original_exports.specs.OriginalWords.{originalWords}
-use Rattle.original_exports.proofs.OriginalAskedLaws.{nine-words}
+use Rattle.original_exports.specs.OriginalNineWords.{originalNineWords}
+use Rattle.original_exports.proofs.OriginalAskedLaws.{nine-long}
 use Rattle.original_exports.proofs.psci_decode_original.Statement.{statement}
 use Rattle.original_exports.proofs.psci_decode_original.Tie as tie
 
 returns : tie.Need-returns
 returns c =
     let out : List ℕ = c .before .before .before .before .before .before .before .before .before .args .out .now in
-    told-call originalWords nine-words _ out (search needs)
+    told-call originalNineWords nine-long _ out (search needs)
     (sym (c .before .before .before .before .before .before .before .decode-original .ensures) ∙ ap originalAnswer (c .before .before .before .before .before .function .given .1))
-    (c .accepted-words .ensures) (c .before .store .ensures ∙ ap (λ (w : List ℕ). stored w out) (c .before .before .before .original-words .ensures))
+    (c .accepted-words .ensures) (c .before .store .ensures ∙ ap (λ (w : List ℕ). stored w out) (c .before .before .before .original-nine-words .ensures))
 
 returns-2 : tie.Need-returns-2
 returns-2 c =
-    told-refusal originalWords nine-words _ (c .before .before .before .before .before .before .args .out .now)
+    told-refusal originalNineWords nine-long _ (c .before .before .before .before .before .before .args .out .now)
     (sym (c .before .before .before .before .decode-original .ensures) ∙ ap originalAnswer (c .before .before .error .given .1))
     (c .refusal-of .ensures)
 

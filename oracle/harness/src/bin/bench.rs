@@ -7,7 +7,7 @@ use arm_psci::{Function, Mpidr};
 use harness::inputs::{AFFINITIES, Rng};
 use harness::line::{self, Written};
 use harness::rattle::{self, Refusal};
-use harness::{flat, inputs, low_half_for_protect, original, refusal};
+use harness::{inputs, low_half_for_protect, nine_words, original, refusal};
 use std::hint::black_box;
 use std::time::Instant;
 
@@ -22,7 +22,7 @@ fn refused(e: arm_psci::Error) -> Refusal {
 fn decoded(regs: &[u64; 4], out: &mut [u64; 9]) -> Refusal {
     match Function::try_from(regs) {
         Ok(f) => {
-            *out = flat::call(f);
+            *out = nine_words::call(f);
             ACCEPTED
         }
         Err(e) => refused(e),
@@ -44,8 +44,8 @@ extern "C" fn rust_encode(call: &[u64; 9], out: &mut [u64; 4]) -> Refusal {
     if call[0] > 21 {
         return Refusal { number: 1002, carried: call[0] };
     }
-    let f = flat::to_call(call);
-    if flat::call(f) != *call {
+    let f = nine_words::to_call(call);
+    if nine_words::call(f) != *call {
         return Refusal { number: 1003, carried: 0 };
     }
     f.copy_to_array(out);
@@ -232,8 +232,8 @@ fn readers(name: &'static str, registers: &[[u64; 1]]) -> Box<dyn Timed> {
     words(name, registers, rattle::bench_mpidr_whole as Reader, rattle::bench_mpidr_halves)
 }
 
-/// Legal words of a 64-bit MPIDR, the same with one of the other bits set, and random words, as many of each; and a list for each place of
-/// which one of the three was drawn.
+/// Legal words of a 64-bit MPIDR, the same with one of the other bits set, and random words, as many of each; and a list with, at
+/// each index, one of the three, drawn.
 fn registers(seed: u64, count: usize) -> [Vec<[u64; 1]>; 4] {
     let reserved: Vec<u64> = (0..64).map(|bit| 1 << bit).filter(|bit| bit & AFFINITIES == 0).collect();
     let mut rng = Rng(seed);
@@ -267,7 +267,7 @@ fn main() {
     let mut mixed = Vec::new();
     inputs::decode_random(1, 1 << 14, &mut |q| mixed.push(q.regs));
     let legal: Vec<[u64; 4]> = mixed.iter().copied().filter(|r| Function::try_from(r).is_ok()).collect();
-    let calls: Vec<[u64; 9]> = legal.iter().map(|r| flat::call(Function::try_from(r).unwrap())).collect();
+    let calls: Vec<[u64; 9]> = legal.iter().map(|r| nine_words::call(Function::try_from(r).unwrap())).collect();
     let recode = |name, list: &[[u64; 4]]| words(name, list, rust_recode, rattle::psci_recode);
     let recode_smccc = |name, list: &[[u64; 4]]| words(name, list, rust_recode_smccc, rattle::psci_recode_smccc);
     let decode = |name, list: &[[u64; 4]]| words(name, list, rust_decode, rattle::psci_decode);

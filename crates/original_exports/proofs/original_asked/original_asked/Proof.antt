@@ -2,7 +2,7 @@
 use mathlib.Core.Path.{sym, ap, _∙_}
 use borrow.Author.Needs.{needs}
 use Rattle.call_exports.proofs.CallAskedLaws.{own-words, other-words, none-found}
-use Rattle.original_exports.specs.OriginalWords.{originalWords}
+use Rattle.original_exports.specs.OriginalNineWords.{originalNineWords}
 use Rattle.original_exports.specs.OriginalAsked.{originalAsked, originalAskedAnswer}
 use Rattle.original_exports.proofs.original_asked.original_asked.Statement.{statement}
 use Rattle.original_exports.proofs.original_asked.original_asked.Tie as tie
@@ -10,16 +10,16 @@ use Rattle.original_exports.proofs.original_asked.original_asked.Tie as
 returns : tie.Need-returns
 unfolding originalAsked
 returns c =
-    own-words originalWords _ _
+    own-words originalNineWords _ _
     (sym (c .before .before .before .before .before .before .original-at .ensures) ∙ ap originalAskedAnswer (c .before .before .before .before .function .given .1))
-    (c .before .differing-bits .ensures .0 (c .if1 .taken) ∙ c .before .before .original-words .ensures)
+    (c .before .differing-bits .ensures .0 (c .if1 .taken) ∙ c .before .before .original-nine-words .ensures)
 
 returns-2 : tie.Need-returns-2
 unfolding originalAsked
 returns-2 c =
-    other-words originalWords _ _
+    other-words originalNineWords _ _
     (sym (c .before .before .before .before .before .before .original-at .ensures) ∙ ap originalAskedAnswer (c .before .before .before .before .function .given .1))
-    (λ q. c .if1 .left (c .before .differing-bits .ensures .1 (q ∙ sym (c .before .before .original-words .ensures))))
+    (λ q. c .if1 .left (c .before .differing-bits .ensures .1 (q ∙ sym (c .before .before .original-nine-words .ensures))))
 
 pub original-asked-spec : {M : Type 1} → statement M
 unfolding originalAsked
@@ -34,5 +34,5 @@ original-asked-spec =
     (λ c. search needs)
     returns
     returns-2
-    (λ c. none-found originalWords _ _ (sym (c .before .before .before .original-at .ensures) ∙ ap originalAskedAnswer (c .before .tag .given .1)))
-    (λ c. none-found originalWords _ _ (sym (c .before .before .original-at .ensures) ∙ ap originalAskedAnswer (c .enum-told .given .1))))
+    (λ c. none-found originalNineWords _ _ (sym (c .before .before .before .original-at .ensures) ∙ ap originalAskedAnswer (c .before .tag .given .1)))
+    (λ c. none-found originalNineWords _ _ (sym (c .before .before .original-at .ensures) ∙ ap originalAskedAnswer (c .enum-told .given .1))))

@@ -1,4 +1,4 @@
--- `replay::compared::question` is safe and ends: the measure is what is left of the places. Assumes nothing.
+-- `replay::compared::question` is safe and ends: the measure is what is left of the words. Assumes nothing.
 use Prim.Native.Nat.{_-_}
 use native.Mathlib.Omega.{arith}
 use borrow.Author.Needs.{needs}

@@ -1,4 +1,4 @@
--- `replay::shown::show_words` is safe and ends: the measure is what is left of the places. Assumes nothing.
+-- `replay::shown::show_words` is safe and ends: the measure is what is left of the words. Assumes nothing.
 use Prim.Native.Nat.{_-_}
 use native.Mathlib.Omega.{arith}
 use Rattle.replay.proofs.shown.show_words.Statement.{statement}

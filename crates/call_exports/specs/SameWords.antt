@@ -1,19 +1,10 @@
--- Plain words: their low bits, and some of them compared with some others.
+-- Words compared with others.
 use mathlib.Core.Bool.{Bool, true, false, cond}
 use mathlib.Core.List.{List, [], _∷_}
-use Prim.Native.Nat.{ℕ, _%_, _^_}
+use Prim.Native.Nat.{ℕ}
 use lib.Dec.{eqb}
 use lib.IntN.{pos}
 use Rattle.answers.specs.Answers.{Answer, refused}
-
-abbrev pub low : ℕ → ℕ
-low part = part % 2 ^ 32
-
-abbrev pub half : ℕ → ℕ
-half part = part % 2 ^ 16
-
-abbrev pub byte : ℕ → ℕ
-byte part = part % 2 ^ 8
 
 -- whether two runs of words are equal, word by word
 abbrev pub same : List ℕ → List ℕ → Bool

@@ -1,13 +1,13 @@
--- `call_exports::call_words::call_words` meets its contract.
+-- `call_exports::nine_words::nine_words` meets its contract.
 -- Assumes nothing.
 use borrow.Author.Needs.{needs}
-use Rattle.call_exports.specs.CallWords.{callWords}
-use Rattle.call_exports.proofs.call_words.call_words.Statement.{statement}
-use Rattle.call_exports.proofs.call_words.call_words.Tie as tie
+use Rattle.call_exports.specs.NineWords.{nineWords}
+use Rattle.call_exports.proofs.nine_words.nine_words.Statement.{statement}
+use Rattle.call_exports.proofs.nine_words.nine_words.Tie as tie
 
-pub call-words-spec : {M : Type 1} → statement M
-unfolding callWords
-call-words-spec =
+pub nine-words-spec : {M : Type 1} → statement M
+unfolding nineWords
+nine-words-spec =
     tie.close
     (tie.spec
     (λ c. search needs)

@@ -1,6 +1,6 @@
 // A call as nine words.
 ghost use mathlib.Core.Path.{_≡_};
-ghost use Rattle.call_exports.specs.CallWords.{callWords};
+ghost use Rattle.call_exports.specs.NineWords.{nineWords};
 use crate::parts::cookie_form;
 use crate::parts::down;
 use crate::parts::entry_form;
@@ -16,8 +16,8 @@ use function::Function;
 use words::flag_word;
 
 // The words of a call: its tag, the parts of its fields in their order, then zeros. Every call has them.
-pub fn call_words(function: Function) -> [u64; 9]
-    ensures { λ r. ⌜ r ≡ callWords function ⌝ }
+pub fn nine_words(function: Function) -> [u64; 9]
+    ensures { λ r. ⌜ r ≡ nineWords function ⌝ }
 {
     match function {
         Function::Version => three(0, 0, 0, 0),

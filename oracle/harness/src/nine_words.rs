@@ -1,10 +1,10 @@
 //! A typed call as nine words, `[tag, part, ..]`, and back. A tag is the case's index in the declaration of `Function`. Parts: MPIDR
 //! `present aff3 aff2 aff1 aff0`; power state `down id`; entry, cookie, range `is64 value..`; reset type `vendor value`; a feature and a mode are
 //! their numbers. Of what no call has, a function is its number, an error code and a hardware state its index in the list below. The parts are
-//! cut to their places here; `answers.rs` holds the words that come back against those that were asked.
+//! cut to their slots here; `answers.rs` holds the words that come back against those that were asked.
 use super::psci::*;
 
-pub type Flat = [u64; 9];
+pub type NineWords = [u64; 9];
 
 pub const CODES: [ErrorCode; 9] = {
     use ErrorCode::*;
@@ -22,7 +22,7 @@ pub fn index<T: PartialEq>(cases: &[T], x: T) -> u64 {
 }
 
 /// `tag` and the parts, the rest zero.
-pub fn flat(tag: u64, parts: &[u64]) -> Flat {
+pub fn nine_words(tag: u64, parts: &[u64]) -> NineWords {
     let mut out = [0; 9];
     out[0] = tag;
     out[1..1 + parts.len()].copy_from_slice(parts);
@@ -149,35 +149,35 @@ fn join(a: &[u64], b: &[u64]) -> Vec8 {
 }
 type Vec8 = [u64; 8];
 
-pub fn call(f: Function) -> Flat {
+pub fn call(f: Function) -> NineWords {
     use Function as F;
     match f {
-        F::Version => flat(0, &[]),
-        F::CpuSuspend { state, entry: e } => flat(1, &join(&power(state), &entry(e))),
-        F::CpuOff => flat(2, &[]),
-        F::CpuOn { target_cpu, entry: e } => flat(3, &join(&mpidr(target_cpu), &entry(e))),
-        F::AffinityInfo { mpidr: m, lowest_affinity_level: l } => flat(4, &join(&mpidr(m), &[l.into()])),
-        F::Migrate { target_affinity } => flat(5, &mpidr(target_affinity)),
-        F::MigrateInfoType => flat(6, &[]),
-        F::MigrateInfoUpCpu { is_32bit } => flat(7, &[is_32bit as u64]),
-        F::SystemOff => flat(8, &[]),
-        F::SystemOff2 { off_type: SystemOff2Type::HibernateOff, cookie: c } => flat(9, &join(&[0], &cookie(c))),
-        F::SystemReset => flat(10, &[]),
-        F::SystemReset2 { reset_type, cookie: c } => flat(11, &join(&reset(reset_type), &cookie(c))),
-        F::MemProtect { enabled } => flat(12, &[enabled as u64]),
-        F::MemProtectCheckRange { range: r } => flat(13, &range(r)),
-        F::Features { psci_func_id } => flat(14, &feature(psci_func_id)),
-        F::CpuFreeze => flat(15, &[]),
-        F::CpuDefaultSuspend { entry: e } => flat(16, &entry(e)),
-        F::NodeHwState { target_cpu, power_level } => flat(17, &join(&mpidr(target_cpu), &[power_level.into()])),
-        F::SystemSuspend { entry: e } => flat(18, &entry(e)),
-        F::SetSuspendMode { mode: m } => flat(19, &mode(m)),
-        F::StatResidency { target_cpu, power_state } => flat(20, &join(&mpidr(target_cpu), &power(power_state))),
-        F::StatCount { target_cpu, power_state } => flat(21, &join(&mpidr(target_cpu), &power(power_state))),
+        F::Version => nine_words(0, &[]),
+        F::CpuSuspend { state, entry: e } => nine_words(1, &join(&power(state), &entry(e))),
+        F::CpuOff => nine_words(2, &[]),
+        F::CpuOn { target_cpu, entry: e } => nine_words(3, &join(&mpidr(target_cpu), &entry(e))),
+        F::AffinityInfo { mpidr: m, lowest_affinity_level: l } => nine_words(4, &join(&mpidr(m), &[l.into()])),
+        F::Migrate { target_affinity } => nine_words(5, &mpidr(target_affinity)),
+        F::MigrateInfoType => nine_words(6, &[]),
+        F::MigrateInfoUpCpu { is_32bit } => nine_words(7, &[is_32bit as u64]),
+        F::SystemOff => nine_words(8, &[]),
+        F::SystemOff2 { off_type: SystemOff2Type::HibernateOff, cookie: c } => nine_words(9, &join(&[0], &cookie(c))),
+        F::SystemReset => nine_words(10, &[]),
+        F::SystemReset2 { reset_type, cookie: c } => nine_words(11, &join(&reset(reset_type), &cookie(c))),
+        F::MemProtect { enabled } => nine_words(12, &[enabled as u64]),
+        F::MemProtectCheckRange { range: r } => nine_words(13, &range(r)),
+        F::Features { psci_func_id } => nine_words(14, &feature(psci_func_id)),
+        F::CpuFreeze => nine_words(15, &[]),
+        F::CpuDefaultSuspend { entry: e } => nine_words(16, &entry(e)),
+        F::NodeHwState { target_cpu, power_level } => nine_words(17, &join(&mpidr(target_cpu), &[power_level.into()])),
+        F::SystemSuspend { entry: e } => nine_words(18, &entry(e)),
+        F::SetSuspendMode { mode: m } => nine_words(19, &mode(m)),
+        F::StatResidency { target_cpu, power_state } => nine_words(20, &join(&mpidr(target_cpu), &power(power_state))),
+        F::StatCount { target_cpu, power_state } => nine_words(21, &join(&mpidr(target_cpu), &power(power_state))),
     }
 }
 
-pub fn to_call(w: &Flat) -> Function {
+pub fn to_call(w: &NineWords) -> Function {
     use Function as F;
     let p = &w[1..];
     match w[0] {

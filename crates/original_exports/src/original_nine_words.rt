@@ -1,7 +1,7 @@
 // A call in the original format as nine words.
 ghost use mathlib.Core.Path.{_≡_};
-ghost use Rattle.original_exports.specs.OriginalWords.{originalWords};
-use call_exports::call_words::call_words;
+ghost use Rattle.original_exports.specs.OriginalNineWords.{originalNineWords};
+use call_exports::nine_words::nine_words;
 use call_exports::parts::entry_form;
 use call_exports::parts::mpidr_and;
 use call_exports::parts::wide8;
@@ -10,8 +10,8 @@ use original_calls::OriginalFunction;
 use words::flag_word;
 
 // The words of a call: its tag, the parts of its fields in their order, then zeros. Every call has them.
-pub fn original_words(function: OriginalFunction) -> [u64; 9]
-    ensures { λ r. ⌜ r ≡ originalWords function ⌝ }
+pub fn original_nine_words(function: OriginalFunction) -> [u64; 9]
+    ensures { λ r. ⌜ r ≡ originalNineWords function ⌝ }
 {
     match function {
         OriginalFunction::CpuSuspend { state, entry } => [
@@ -45,6 +45,6 @@ pub fn original_words(function: OriginalFunction) -> [u64; 9]
             wide16(power_state.state_id),
             wide8(power_state.level),
         ),
-        OriginalFunction::Other(other) => call_words(other.to_function()),
+        OriginalFunction::Other(other) => nine_words(other.to_function()),
     }
 }

@@ -21,12 +21,12 @@ use Rattle.function.specs.declared.Function.the-variants as of01
 use Rattle.decode_definition.specs.Decode.{decodeOf}
 use Rattle.roundtrip.specs.Codec.{Registers}
 use Rattle.call_exports.specs.CallAsked.{callAt}
-use Rattle.call_exports.specs.CallWords.{callParts, callWords}
+use Rattle.call_exports.specs.NineWords.{callParts, nineWords}
 use Rattle.call_exports.specs.FromParts.{powerStateIn, entryIn}
 use Rattle.call_exports.specs.Parts.{Fit, mpidrParts, powerStateParts, entryParts}
 use Rattle.call_exports.proofs.CallAskedLaws.{own-words, only-own}
 use Rattle.call_exports.proofs.DecodedFit.{flag-fits, fit-of-01}
-use Rattle.call_exports.proofs.NineWords.{nine-words}
+use Rattle.call_exports.proofs.NineWordsLaws.{nine-words-laws}
 use Rattle.call_exports.proofs.OwnParts.{first-fit, last-fit, both-fit, of-both, mpidr-own, entry-own, flag-own}
 use Rattle.call_exports.proofs.OwnWords as of-01
 use Rattle.original_calls.specs.OriginalCalls.{originalDecodeOf}
@@ -39,8 +39,8 @@ use Rattle.original_calls.proofs.Apart.{apart}
 use Rattle.original_calls.proofs.Original.{demand3-of-original}
 use Rattle.original_calls.proofs.Sorts.{HasState, suspend, residency, count, own, sort}
 use Rattle.original_exports.specs.OriginalAsked.{originalStateIn, originalAt, originalAsked}
-use Rattle.original_exports.specs.OriginalNineWords.{originalWorded, NineWordsOfOriginal}
-use Rattle.original_exports.specs.OriginalWords.{originalStateParts, originalParts, originalWords}
+use Rattle.original_exports.specs.OriginalNineWordsLaws.{originalWorded, NineWordsOfOriginal}
+use Rattle.original_exports.specs.OriginalNineWords.{originalStateParts, originalParts, originalNineWords}
 use Rattle.original_exports.proofs.OriginalAskedLaws.{other-at}
 
 -- ---- the words of a call ask for it
@@ -49,8 +49,8 @@ state-own : (s : OriginalPowerState) → Fit (originalStateParts s) → original
 state-own s h = rw (flag-own (s .«power_down»), mod-eq-of-lt (h .1 .0), mod-eq-of-lt (h .1 .1 .0))
 
 -- a call without a power state has document 01's words
-words-of-01 : (g : StatelessFunction) → originalWords (Other g) ≡ callWords (functionOf g)
-unfolding originalWords callWords
+words-of-01 : (g : StatelessFunction) → originalNineWords (Other g) ≡ nineWords (functionOf g)
+unfolding originalNineWords nineWords
 words-of-01 g = refl
 
 -- at the tag 1 document 01's words have a suspend
@@ -67,26 +67,26 @@ no-suspend g p e q =
     let z : _≡_ {A = ℕ} 0 1 = cc in
     absurd (omega arith)
 
-other-found : (g : StatelessFunction) → Fit (callParts (functionOf g)) → originalAt (callWords (functionOf g)) (getD (callWords (functionOf g)) 0 0) ≡ accepted (Other g)
+other-found : (g : StatelessFunction) → Fit (callParts (functionOf g)) → originalAt (nineWords (functionOf g)) (getD (nineWords (functionOf g)) 0 0) ≡ accepted (Other g)
 other-found g h =
-    let c : List ℕ = callWords (functionOf g) in
+    let c : List ℕ = nineWords (functionOf g) in
     let at = of-01.found (functionOf g) h in
     sym (other-at c (getD c 0 0) (λ e. no-suspend g _ _ (same-accepted (sym (suspend-found c) ∙ ap (callAt c) (sym e) ∙ at))) at) ∙ ap accepted (own g _)
 
-found : (f : OriginalFunction) → Fit (originalParts f) → originalAt (originalWords f) (getD (originalWords f) 0 0) ≡ accepted f
-unfolding originalAt originalWords callAt withState
+found : (f : OriginalFunction) → Fit (originalParts f) → originalAt (originalNineWords f) (getD (originalNineWords f) 0 0) ≡ accepted f
+unfolding originalAt originalNineWords callAt withState
 found (CpuSuspend state entry) h = ap accepted (of-both CpuSuspend (originalStateParts state) (entryParts entry) (h .1) (state-own state) (entry-own entry))
 found (StatResidency mpidr state) h = ap accepted (of-both StatResidency (mpidrParts mpidr) (originalStateParts state) (h .1) (mpidr-own mpidr) (state-own state))
 found (StatCount mpidr state) h = ap accepted (of-both StatCount (mpidrParts mpidr) (originalStateParts state) (h .1) (mpidr-own mpidr) (state-own state))
 found (Other g) h = ap (λ (c : List ℕ). originalAt c (getD c 0 0)) (words-of-01 g) ∙ other-found g h
 
-own-original : (f : OriginalFunction) → Fit (originalParts f) → originalAsked (originalWords f) ≡ accepted f
+own-original : (f : OriginalFunction) → Fit (originalParts f) → originalAsked (originalNineWords f) ≡ accepted f
 unfolding originalAsked
-own-original f h = sym (own-words originalWords (originalWords f) _ (found f h) refl)
+own-original f h = sym (own-words originalNineWords (originalNineWords f) _ (found f h) refl)
 
-only-original : (c : List ℕ) (f : OriginalFunction) → originalAsked c ≡ accepted f → c ≡ originalWords f
+only-original : (c : List ℕ) (f : OriginalFunction) → originalAsked c ≡ accepted f → c ≡ originalNineWords f
 unfolding originalAsked
-only-original c f e = only-own originalWords c (originalAt c (getD c 0 0)) f e
+only-original c f e = only-own originalNineWords c (originalAt c (getD c 0 0)) f e
 
 -- ---- the parts of a decoded call fit
 
@@ -118,4 +118,4 @@ fit-of-original r f h d =
     (with-fits (o .0) (t .0) (fit-of-01 (a .others) (o .0) (a .fits h) (o .1 .0)) (state-fits (a .word) (t .0) (t .1 .0)))
 
 pub nine-words-of-original : NineWordsOfOriginal
-nine-words-of-original = nine-words original originalWorded demand3-of-original own-original only-original fit-of-original
+nine-words-of-original = nine-words-laws original originalWorded demand3-of-original own-original only-original fit-of-original

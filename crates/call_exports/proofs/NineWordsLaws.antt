@@ -11,7 +11,7 @@ use Rattle.roundtrip.specs.Recode.{recodeBy}
 use Rattle.roundtrip.specs.Smccc.{smccc}
 use Rattle.roundtrip.proofs.TwoCodecs.{demand3-of-01, demand3-of-smccc}
 use Rattle.call_exports.specs.Exports.{encodeAsked}
-use Rattle.call_exports.specs.NineWords.{Worded, NineWords, worded, NineWordsOf01, NineWordsOfSmccc}
+use Rattle.call_exports.specs.NineWordsLaws.{Worded, NineWordsLaws, worded, NineWordsOf01, NineWordsOfSmccc}
 use Rattle.call_exports.specs.Parts.{Fit}
 use Rattle.call_exports.proofs.DecodedFit.{fit-of-01, fit-of-smccc}
 use Rattle.call_exports.proofs.OwnWords.{own-call, only-call}
@@ -41,11 +41,11 @@ module _ (c : Codec) (w : Worded (c .Call)) (d3 : Demand3 c)
       met (accepted f) e = asked-again r f h e run
       met (refused number value) e = refl
 
-  pub nine-words : NineWords c w
-  nine-words = record { own = own; apart = apart; only = only; fit = fit; taken = taken; recoded = recoded }
+  pub nine-words-laws : NineWordsLaws c w
+  nine-words-laws = record { own = own; apart = apart; only = only; fit = fit; taken = taken; recoded = recoded }
 
 pub nine-words-of-01 : NineWordsOf01
-nine-words-of-01 = nine-words document01 worded demand3-of-01 own-call only-call fit-of-01
+nine-words-of-01 = nine-words-laws document01 worded demand3-of-01 own-call only-call fit-of-01
 
 pub nine-words-of-smccc : NineWordsOfSmccc
-nine-words-of-smccc = nine-words smccc worded demand3-of-smccc own-call only-call fit-of-smccc
+nine-words-of-smccc = nine-words-laws smccc worded demand3-of-smccc own-call only-call fit-of-smccc

@@ -1,9 +1,9 @@
--- `call_exports::plain_words::differing_bits` meets its contract.
+-- `call_exports::same_words::differing_bits` meets its contract.
 -- Assumes nothing.
 use borrow.Author.Needs.{needs}
 use Rattle.call_exports.proofs.SameWords.{none-differ, differ-none}
-use Rattle.call_exports.proofs.plain_words.differing_bits.Statement.{statement}
-use Rattle.call_exports.proofs.plain_words.differing_bits.Tie as tie
+use Rattle.call_exports.proofs.same_words.differing_bits.Statement.{statement}
+use Rattle.call_exports.proofs.same_words.differing_bits.Tie as tie
 
 pub differing-bits-spec : {M : Type 1} → statement M
 differing-bits-spec =
