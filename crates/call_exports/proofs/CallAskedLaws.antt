@@ -8,6 +8,7 @@ use Rattle.answers.specs.Answers.{Answer, accepted, refused, through, andThen}
 use Rattle.answers.proofs.Answering.{came-then, not-accepted, same-accepted}
 use Rattle.answers.proofs.Choosing.{NoneOf, none-chosen}
 use Rattle.function.specs.declared.Function.{Function}
+use Rattle.call_exports.specs.Refusals.{unknownTag, wrongPart}
 use Rattle.call_exports.specs.SameWords.{same, ofParts}
 use Rattle.call_exports.specs.CallAsked.{Tagged, calls, callAt}
 use Rattle.call_exports.proofs.SameWords.{same-equal, equal-same, other-same}
@@ -18,9 +19,9 @@ module _ (c : List ℕ) where
   tagged e same = e ∙ ap (callAt c) (sym same)
 
   -- what its `_` arm gives
-  pub unknown-tag : (tag : ℕ) → NoneOf {A = Tagged} (λ t. t .tag) (refused 1002 (pos tag)) (λ x. x) tag Unit (calls c) → refused 1002 (pos tag) ≡ callAt c tag
+  pub unknown-tag : (tag : ℕ) → NoneOf {A = Tagged} (λ t. t .tag) (refused unknownTag (pos tag)) (λ x. x) tag Unit (calls c) → refused unknownTag (pos tag) ≡ callAt c tag
   unfolding callAt
-  unknown-tag tag n = ap (through (λ (t : Tagged). t .call)) (none-chosen (λ (t : Tagged). t .tag) (refused 1002 (pos tag)) (λ x. x) tag (calls c) n)
+  unknown-tag tag n = ap (through (λ (t : Tagged). t .call)) (none-chosen (λ (t : Tagged). t .tag) (refused unknownTag (pos tag)) (λ x. x) tag (calls c) n)
 
 -- a call that was found at a tag: its own words ask for it, and no others
 module _ {A : Type 0} (words : A → List ℕ) (c : List ℕ) (found : Answer A) where
@@ -31,7 +32,7 @@ module _ {A : Type 0} (words : A → List ℕ) (c : List ℕ) (found : Answer A)
   unfolding ofParts
   own-words {f} e own = simp (e, equal-same c (words f) own)
 
-  pub other-words : {f : A} → found ≡ accepted f → (c ≡ words f → ⊥) → refused 1003 (pos 0) ≡ OwnWords
+  pub other-words : {f : A} → found ≡ accepted f → (c ≡ words f → ⊥) → refused wrongPart (pos 0) ≡ OwnWords
   unfolding ofParts
   other-words {f} e other = simp (e, other-same c (words f) other)
 
@@ -45,6 +46,6 @@ module _ {A : Type 0} (words : A → List ℕ) (c : List ℕ) (found : Answer A)
       let o = came-then found (λ g. ofParts c (words g) (accepted g)) f e in
       by-test (o .0) (same c (words (o .0))) refl (o .1 .1)
     where
-      by-test : (g : A) (t : Bool) → same c (words g) ≡ t → cond t (accepted g) (refused 1003 (pos 0)) ≡ accepted f → c ≡ words f
+      by-test : (g : A) (t : Bool) → same c (words g) ≡ t → cond t (accepted g) (refused wrongPart (pos 0)) ≡ accepted f → c ≡ words f
       by-test g true s r = same-equal c (words g) s ∙ ap words (same-accepted r)
       by-test g false s r = not-accepted r

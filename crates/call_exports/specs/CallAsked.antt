@@ -10,6 +10,7 @@ use Rattle.words.specs.declared.system_off2_types.SystemOff2Type.the-variants.{
 use Rattle.function.specs.declared.Function.{Function}
 use Rattle.function.specs.declared.Function.the-variants as call
 use Rattle.call_exports.specs.LowBits.{low}
+use Rattle.call_exports.specs.Refusals.{unknownTag, wrongPart}
 use Rattle.call_exports.specs.SameWords.{ofParts}
 use Rattle.call_exports.specs.FromParts.{mpidrIn, powerStateIn, entryIn, cookieIn, rangeIn, resetTypeIn, featureIn, modeIn}
 use Rattle.call_exports.specs.NineWords.{nineWords}
@@ -51,9 +52,9 @@ calls c =
     ∷ 21 is (call.StatCount (mpidrIn c) (powerStateIn (getD c 6 0) (getD c 7 0)))
     ∷ []
 
--- refusal 1002: a tag that no call has
+-- the call of a tag, its parts cut to their slots
 unfoldable pub callAt : List ℕ → ℕ → Answer Function
-callAt c tag = through (λ t. t .call) (choose (λ t. t .tag) (calls c) (refused 1002 (pos tag)) tag)
+callAt c tag = through (λ t. t .call) (choose (λ t. t .tag) (calls c) (refused unknownTag (pos tag)) tag)
 
 -- the call that nine words stand for
 unfoldable pub callAsked : List ℕ → Answer Function
@@ -61,5 +62,5 @@ callAsked c = andThen (callAt c (getD c 0 0)) (λ f. ofParts c (nineWords f) (ac
 
 abbrev pub askedAnswer : Asked → Answer Function
 askedAnswer (Call f) = accepted f
-askedAnswer (UnknownTag tag) = refused 1002 (pos tag)
-askedAnswer WrongPart = refused 1003 (pos 0)
+askedAnswer (UnknownTag tag) = refused unknownTag (pos tag)
+askedAnswer WrongPart = refused wrongPart (pos 0)

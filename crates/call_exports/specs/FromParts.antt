@@ -1,5 +1,5 @@
 -- The value that parts stand for, each part cut to its slot. Where a part has no room in its slot, or is a number that no feature has, or a word past the
--- parts is not zero, the value's own nine words are others than those asked with: refusal 1003 of the exports.
+-- parts is not zero, the value's own nine words are others than those asked with: the refusal `wrongPart`.
 use mathlib.Core.Bool.{cond}
 use mathlib.Core.List.{List}
 use Prim.Native.Nat.{ℕ}

@@ -5,4 +5,5 @@ pub mod LowBits
 pub mod NineWords
 pub mod NineWordsLaws
 pub mod Parts
+pub mod Refusals
 pub mod SameWords

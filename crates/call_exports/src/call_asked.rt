@@ -18,6 +18,12 @@ use crate::same_words::differing_bits;
 use function::Function;
 use words::SystemOff2Type;
 
+// Refusals of words that ask for no call, by numbers that no paper has: a tag that no call has, which is carried, and words that are not those of the
+// call of their tag, with 0.
+pub const UNKNOWN_TAG: u64 = 1002;
+
+pub const WRONG_PART: u64 = 1003;
+
 // The call that words ask for, or what is wrong with them.
 pub enum Asked {
     Call(Function),

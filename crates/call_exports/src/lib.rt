@@ -20,6 +20,8 @@ pub mod parts;
 pub mod same_words;
 
 use crate::call_asked::Asked;
+use crate::call_asked::UNKNOWN_TAG;
+use crate::call_asked::WRONG_PART;
 use crate::call_asked::call_asked;
 use crate::nine_words::nine_words;
 use answers::told::Refusal;
@@ -89,8 +91,8 @@ pub extern "C" fn psci_decode_smccc(regs: &[u64; 4], out: &mut [u64; 9]) -> Refu
     }
 }
 
-// The four words of the call that nine words stand for. Refused with 1002 or 1003 where they stand for none, then with encode's 14, 15 or 31; the
-// lent words are then as they were.
+// The four words of the call that nine words stand for. Refused with `UNKNOWN_TAG` or `WRONG_PART` where they stand for none, then with encode's 14, 15
+// or 31; the lent words are then as they were.
 #[no_mangle]
 pub extern "C" fn psci_encode(call: &[u64; 9], out: &mut [u64; 4]) -> Refusal
     ensures { λ r. ⌜ (r ≡ refusalIn (encodeWords (now (call .entry)) (now (out .entry)))) × (now (out .exit) ≡ left (encodeWords (now (call .entry)) (now (out .entry))) (now (out .entry))) ⌝ }
@@ -99,11 +101,11 @@ pub extern "C" fn psci_encode(call: &[u64; 9], out: &mut [u64; 4]) -> Refusal
     match call_asked(c) {
         Asked::Call(function) => told_words(encode::encode(function, out)),
         Asked::UnknownTag(tag) => Refusal {
-            number: 1002,
+            number: UNKNOWN_TAG,
             carried: tag,
         },
         Asked::WrongPart => Refusal {
-            number: 1003,
+            number: WRONG_PART,
             carried: 0,
         },
     }

@@ -18,6 +18,8 @@ use crate::original_nine_words::original_nine_words;
 use answers::told::Refusal;
 use answers::told::accepted_words;
 use answers::told::refusal_of;
+use call_exports::call_asked::UNKNOWN_TAG;
+use call_exports::call_asked::WRONG_PART;
 use call_exports::store;
 use call_exports::told_words;
 use original_calls::OriginalFunctionResult;
@@ -40,8 +42,8 @@ pub extern "C" fn psci_decode_original(regs: &[u64; 4], out: &mut [u64; 9]) -> R
     }
 }
 
-// The four words of the call that nine words stand for. Refused with 1002 or 1003 where they stand for none, then with encode's 14, 27 or 31; the
-// lent words are then as they were.
+// The four words of the call that nine words stand for. Refused with `UNKNOWN_TAG` or `WRONG_PART` where they stand for none, then with encode's 14, 27
+// or 31; the lent words are then as they were.
 #[no_mangle]
 pub extern "C" fn psci_encode_original(call: &[u64; 9], out: &mut [u64; 4]) -> Refusal
     ensures { λ r. ⌜ (r ≡ refusalIn (encodeOriginalWords (now (call .entry)) (now (out .entry)))) × (now (out .exit) ≡ left (encodeOriginalWords (now (call .entry)) (now (out .entry))) (now (out .entry))) ⌝ }
@@ -50,11 +52,11 @@ pub extern "C" fn psci_encode_original(call: &[u64; 9], out: &mut [u64; 4]) -> R
     match original_asked(c) {
         OriginalAsked::Call(function) => told_words(encode_original(function, out)),
         OriginalAsked::UnknownTag(tag) => Refusal {
-            number: 1002,
+            number: UNKNOWN_TAG,
             carried: tag,
         },
         OriginalAsked::WrongPart => Refusal {
-            number: 1003,
+            number: WRONG_PART,
             carried: 0,
         },
     }

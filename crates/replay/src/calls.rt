@@ -1,7 +1,5 @@
 // The operations on calls in a record: decode by the three decoders and encode in both formats of a power state, each by the function that is exported to
 // C, and the function number in both formats.
-use crate::records::UNKNOWN_TAG;
-use crate::records::WRONG_PART;
 use crate::records::nine_in;
 use crate::records::refused;
 use crate::records::regs_in;
@@ -9,6 +7,8 @@ use crate::records::told_record;
 use crate::records::turned_back;
 use crate::records::written_word;
 use call_exports::call_asked::Asked;
+use call_exports::call_asked::UNKNOWN_TAG;
+use call_exports::call_asked::WRONG_PART;
 use call_exports::call_asked::call_asked;
 use call_exports::parts::wide32;
 use call_exports::psci_decode;

@@ -1,14 +1,15 @@
 // Puts the codec to the answers of the Rust and to labelled cases, in blocks of 128 bytes on standard input. Plain code without promises: a
 // slip here shows as a difference.
 //
-// A block is a record of sixteen big-endian words (records.rt), and an answer of the Rust, the power states of operations 4 to 6, 34 and 66
-// by the masks of linux/psci.h: it is compared (compared.rt), or, where its operation is 2000, a sweep (sweeps.rt). But a block whose first byte
-// is a printable character is a label: it is printed, and the record behind it is asked as it stands and shown (shown.rt), not compared.
+// A block is a record of sixteen big-endian words (records.rt), its operation first (op.rt), and an answer of the Rust, the power states of Change 1's
+// operations by the masks of linux/psci.h: it is compared (compared.rt), or asks a sweep (sweeps.rt). But a block whose first byte is a printable
+// character is a label: it is printed, and the record behind it is asked as it stands and shown (shown.rt), not compared.
 //
 // The last line says how many records and sweeps were compared, and how many differed. A block cut short counts as one that differs, and so
 // does a record that a label lacks.
 mod calls;
 mod compared;
+mod op;
 mod operations;
 mod readers;
 mod records;

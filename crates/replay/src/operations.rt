@@ -1,6 +1,4 @@
-// The answer to a record, an arm for each operation. 0 to 6 are the calls', 4 to 6 those of Change 1, with the original power state. 16 to 31
-// read one word, 32 and 33 make an MPIDR of the low bytes of the registers, 34 reads an original power state. 48 to 62 write one word, 63 turns
-// a refusal into an error code, 64 and 65 are the entry point's two accessors, 66 writes an original power state.
+// The answer to a record, an arm for each operation.
 use crate::calls::decode_original_record;
 use crate::calls::decode_record;
 use crate::calls::decode_smccc_record;
@@ -8,6 +6,7 @@ use crate::calls::encode_original_record;
 use crate::calls::encode_record;
 use crate::calls::function_id_record;
 use crate::calls::original_function_id_record;
+use crate::op;
 use crate::readers;
 use crate::records::UNKNOWN_OPERATION;
 use crate::records::given;
@@ -43,51 +42,63 @@ pub(crate) fn answer(w: [u64; 16]) -> [u64; 16] {
     let long_word = w[10];
     let word = low32(long_word);
     match w[0] {
-        0 => decode_record(w),
-        1 => encode_record(w),
-        2 => function_id_record(w),
-        3 => decode_smccc_record(w),
-        4 => decode_original_record(w),
-        5 => encode_original_record(w),
-        6 => original_function_id_record(w),
-        16 => readers::function_id(w, FunctionId::try_from_u32(word)),
-        17 => readers::return_code(w, ReturnCode::try_from_i32(signs::signed_32(word))),
-        18 => readers::error_code(w, ErrorCode::try_from_i32(signs::signed_32(word))),
-        19 => readers::error_code(w, ErrorCode::try_from_u32(word)),
-        20 => readers::error_code(w, ErrorCode::try_from_u64(long_word)),
-        21 => readers::version(w, Version::try_from_u32(word)),
-        22 => readers::power_state(w, PowerState::try_from_u32(word)),
-        23 => readers::mpidr(w, Mpidr::try_from_u32(word)),
-        24 => readers::mpidr(w, Mpidr::try_from_u64(long_word)),
-        25 => given(w, mpidr_words(Mpidr::from_register_value(long_word))),
-        26 => readers::system_off2_type(w, SystemOff2Type::try_from_u32(word)),
-        27 => readers::architectural(w, ArchitecturalResetType::try_from_u32(word)),
-        28 => readers::reset_type(w, ResetType::try_from_u32(word)),
-        29 => readers::feature(w, PsciFeature::try_from_u32(word)),
-        30 => readers::hw_state(w, HwState::try_from_u32(word)),
-        31 => readers::suspend_mode(w, SuspendMode::try_from_u32(word)),
-        32 => given(w, mpidr_words(from_aff3210(w))),
-        33 => given(w, mpidr_words(from_aff210(w))),
-        34 => readers::original_power_state(w, OriginalPowerState::try_from_u32(word)),
-        48 => writers::function_id(w),
-        49 => writers::return_code(w),
-        50 => writers::error_code(w),
-        51 => writers::error_code_32(w),
-        52 => writers::error_code_64(w),
-        53 => writers::version(w),
-        54 => writers::power_state(w),
-        55 => writers::mpidr_32(w),
-        56 => writers::mpidr_64(w),
-        57 => writers::system_off2_type(w),
-        58 => writers::architectural(w),
-        59 => writers::reset_type(w),
-        60 => writers::feature(w),
-        61 => writers::hw_state(w),
-        62 => writers::suspend_mode(w),
-        63 => writers::error(w),
-        64 => writers::entry_address(w),
-        65 => writers::entry_context(w),
-        66 => writers::original_power_state(w),
-        op => turned_back(w, UNKNOWN_OPERATION, op),
+        op::DECODE => decode_record(w),
+        op::ENCODE => encode_record(w),
+        op::FUNCTION_ID => function_id_record(w),
+        op::DECODE_SMCCC => decode_smccc_record(w),
+        op::DECODE_ORIGINAL => decode_original_record(w),
+        op::ENCODE_ORIGINAL => encode_original_record(w),
+        op::FUNCTION_ID_ORIGINAL => original_function_id_record(w),
+        op::READ_FUNCTION_ID => readers::function_id(w, FunctionId::try_from_u32(word)),
+        op::READ_RETURN_CODE => readers::return_code(
+            w,
+            ReturnCode::try_from_i32(signs::signed_32(word)),
+        ),
+        op::READ_ERROR_CODE => readers::error_code(
+            w,
+            ErrorCode::try_from_i32(signs::signed_32(word)),
+        ),
+        op::READ_ERROR_CODE_32 => readers::error_code(w, ErrorCode::try_from_u32(word)),
+        op::READ_ERROR_CODE_64 => readers::error_code(w, ErrorCode::try_from_u64(long_word)),
+        op::READ_VERSION => readers::version(w, Version::try_from_u32(word)),
+        op::READ_POWER_STATE => readers::power_state(w, PowerState::try_from_u32(word)),
+        op::READ_MPIDR_32 => readers::mpidr(w, Mpidr::try_from_u32(word)),
+        op::READ_MPIDR_64 => readers::mpidr(w, Mpidr::try_from_u64(long_word)),
+        op::READ_MPIDR_REGISTER => given(w, mpidr_words(Mpidr::from_register_value(long_word))),
+        op::READ_OFF_TYPE => readers::system_off2_type(w, SystemOff2Type::try_from_u32(word)),
+        op::READ_ARCHITECTURAL => readers::architectural(
+            w,
+            ArchitecturalResetType::try_from_u32(word),
+        ),
+        op::READ_RESET_TYPE => readers::reset_type(w, ResetType::try_from_u32(word)),
+        op::READ_FEATURE => readers::feature(w, PsciFeature::try_from_u32(word)),
+        op::READ_HW_STATE => readers::hw_state(w, HwState::try_from_u32(word)),
+        op::READ_SUSPEND_MODE => readers::suspend_mode(w, SuspendMode::try_from_u32(word)),
+        op::FROM_AFF3210 => given(w, mpidr_words(from_aff3210(w))),
+        op::FROM_AFF210 => given(w, mpidr_words(from_aff210(w))),
+        op::READ_POWER_STATE_ORIGINAL => readers::original_power_state(
+            w,
+            OriginalPowerState::try_from_u32(word),
+        ),
+        op::WRITE_FUNCTION_ID => writers::function_id(w),
+        op::WRITE_RETURN_CODE => writers::return_code(w),
+        op::WRITE_ERROR_CODE => writers::error_code(w),
+        op::WRITE_ERROR_CODE_32 => writers::error_code_32(w),
+        op::WRITE_ERROR_CODE_64 => writers::error_code_64(w),
+        op::WRITE_VERSION => writers::version(w),
+        op::WRITE_POWER_STATE => writers::power_state(w),
+        op::WRITE_MPIDR_32 => writers::mpidr_32(w),
+        op::WRITE_MPIDR_64 => writers::mpidr_64(w),
+        op::WRITE_OFF_TYPE => writers::system_off2_type(w),
+        op::WRITE_ARCHITECTURAL => writers::architectural(w),
+        op::WRITE_RESET_TYPE => writers::reset_type(w),
+        op::WRITE_FEATURE => writers::feature(w),
+        op::WRITE_HW_STATE => writers::hw_state(w),
+        op::WRITE_SUSPEND_MODE => writers::suspend_mode(w),
+        op::ERROR_TO_CODE => writers::error(w),
+        op::ENTRY_ADDRESS => writers::entry_address(w),
+        op::ENTRY_CONTEXT => writers::entry_context(w),
+        op::WRITE_POWER_STATE_ORIGINAL => writers::original_power_state(w),
+        other => turned_back(w, UNKNOWN_OPERATION, other),
     }
 }

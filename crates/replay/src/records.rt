@@ -1,23 +1,28 @@
 // A record is sixteen words: the operation, a call or a single value as nine words, four registers, a refusal's number and what it carries.
 // An answer changes only what it gives; every other word stays as it was asked.
+use crate::op;
 use answers::Error;
 use answers::WordResult;
 use answers::told::Refusal;
+use call_exports::call_asked::WRONG_PART;
 use call_exports::parts::wide32;
 use call_exports::same_words::differing_bits;
 
-// Refusals of the record itself, beside the papers': an operation that there is not, a tag that no call has, and a part that has no room
-// in its slot.
+// The refusal of a record whose operation there is not, beside those of call_exports and the papers'; the operation is carried.
 pub(crate) const UNKNOWN_OPERATION: u64 = 1001;
-
-pub(crate) const UNKNOWN_TAG: u64 = 1002;
-
-pub(crate) const WRONG_PART: u64 = 1003;
 
 // Whether the answer to an operation is registers: encode writes four, a function number or a single word one. The decoders and the readers
 // give nine words.
-pub(crate) fn is_to_registers(op: u64) -> bool {
-    op == 1 || op == 2 || op == 5 || op == 6 || 48 <= op
+pub(crate) fn is_to_registers(operation: u64) -> bool {
+    is_encode(operation)
+        || operation == op::FUNCTION_ID
+        || operation == op::FUNCTION_ID_ORIGINAL
+        || op::WRITE_FUNCTION_ID <= operation
+}
+
+// Whether the operation is encode, in either format.
+pub(crate) fn is_encode(operation: u64) -> bool {
+    operation == op::ENCODE || operation == op::ENCODE_ORIGINAL
 }
 
 // Turned in a word that an answer must write, so that it cannot be right by chance.

@@ -1,13 +1,14 @@
 // Labelled cases: a line for each, with its label and what the codec answers.
+use crate::op;
 use crate::operations::answer;
-use crate::records::UNKNOWN_TAG;
-use crate::records::WRONG_PART;
 use crate::records::is_to_registers;
 use crate::records::nine_in;
 use crate::records::regs_in;
 use crate::records::told_record;
 use answers::told::Refusal;
 use call_exports::call_asked::Asked;
+use call_exports::call_asked::UNKNOWN_TAG;
+use call_exports::call_asked::WRONG_PART;
 use call_exports::call_asked::call_asked;
 use call_exports::psci_recode;
 use call_exports::psci_recode_smccc;
@@ -18,23 +19,6 @@ use line_exports::psci_line;
 use original_exports::original_asked::OriginalAsked;
 use original_exports::original_asked::original_asked;
 use original_exports::psci_recode_original;
-
-// Operations that only a labelled record has: a heading, which is a label alone; a call written to a lent run, whose length is word 15, by
-// document 01 or with an original power state; and, each by the function that is exported to C, the three recodes of four registers and the line of a
-// record, whose number is word 1.
-const HEADING: u64 = 1000;
-
-const LENT: u64 = 1001;
-
-const LENT_ORIGINAL: u64 = 1002;
-
-const RECODE: u64 = 1003;
-
-const RECODE_SMCCC: u64 = 1004;
-
-const RECODE_ORIGINAL: u64 = 1005;
-
-const LINE: u64 = 1006;
 
 // What lent words hold before a call is written to them.
 const PATTERN: u64 = 0xa5a5;
@@ -117,10 +101,10 @@ fn show_lent_original(w: [u64; 16]) {
     show_words(run, 0, 5);
 }
 
-fn recoded(op: u64, regs: [u64; 4], out: &mut [u64; 4]) -> Refusal {
-    match op {
-        RECODE => psci_recode(&regs, out),
-        RECODE_SMCCC => psci_recode_smccc(&regs, out),
+fn recoded(operation: u64, regs: [u64; 4], out: &mut [u64; 4]) -> Refusal {
+    match operation {
+        op::RECODE => psci_recode(&regs, out),
+        op::RECODE_SMCCC => psci_recode_smccc(&regs, out),
         _ => psci_recode_original(&regs, out),
     }
 }
@@ -154,11 +138,11 @@ fn show_line(w: [u64; 16]) {
 
 pub(crate) fn show_case(w: [u64; 16]) {
     match w[0] {
-        HEADING => {}
-        LENT => show_lent(w),
-        LENT_ORIGINAL => show_lent_original(w),
-        RECODE | RECODE_SMCCC | RECODE_ORIGINAL => show_recoded(w),
-        LINE => show_line(w),
+        op::HEADING => {}
+        op::LENT => show_lent(w),
+        op::LENT_ORIGINAL => show_lent_original(w),
+        op::RECODE | op::RECODE_SMCCC | op::RECODE_ORIGINAL => show_recoded(w),
+        op::LINE => show_line(w),
         _ => show_answer(answer(w)),
     }
     new_line();

@@ -1,16 +1,18 @@
 // A sweep: one reader or decoder asked about many words, and all words of its answers folded into one digest.
+use crate::op;
 use crate::operations::answer;
 use crate::records::WRONG;
-
-pub(crate) const SWEEP: u64 = 2000;
 
 const MAX_COUNT: u64 = 65536;
 
 // Word 1 is a reader's or a decoder's operation, word 2 a shift, word 3 a count. A sweep that says something else counts as one that differs.
 fn is_sound(w: [u64; 16]) -> bool {
-    let op = w[1];
-    let is_decoder = op == 0 || op == 3 || op == 4;
-    let is_reader = (16 <= op && op <= 31) || op == 34;
+    let swept = w[1];
+    let is_decoder = swept == op::DECODE
+        || swept == op::DECODE_SMCCC
+        || swept == op::DECODE_ORIGINAL;
+    let is_reader = (op::READ_FUNCTION_ID <= swept && swept <= op::READ_SUSPEND_MODE)
+        || swept == op::READ_POWER_STATE_ORIGINAL;
     (is_decoder || is_reader) && w[2] < 64 && w[3] <= MAX_COUNT
 }
 

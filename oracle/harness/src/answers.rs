@@ -3,7 +3,7 @@
 use super::departures;
 use super::nine_words::*;
 use super::psci::*;
-use crate::{NO_OPERATION, NO_PART, NO_TAG, Record, op};
+use crate::{Record, UNKNOWN_OPERATION, UNKNOWN_TAG, WRONG_PART, op};
 
 /// A refusal's number and the value that it carries.
 pub type No = (u64, u64);
@@ -141,11 +141,11 @@ fn write(op: u64, p: &[u64]) -> (NineWords, Result<u64, No>) {
 
 /// The call that a record asks with, or the record's own refusal of its words.
 fn asked(words: &NineWords) -> Result<Function, No> {
-    if words[0] > 21 {
-        return Err((NO_TAG, words[0]));
+    if words[0] > tag::LAST {
+        return Err((UNKNOWN_TAG, words[0]));
     }
     let f = to_call(words);
-    if call(f) == *words { Ok(f) } else { Err((NO_PART, 0)) }
+    if call(f) == *words { Ok(f) } else { Err((WRONG_PART, 0)) }
 }
 
 /// `q` with its answer. A refusal leaves the words that it would have written as they were.
@@ -162,10 +162,10 @@ pub fn answer(q: &Record) -> Record {
         op::FUNCTION_ID => asked(&q.call).and_then(departures::function_id).map(|id| a.regs[0] = u32::from(id).into()),
         op::READ_FUNCTION_ID..=op::FROM_AFF210 => read(q.op, q.regs).map(|words| a.call = words).map_err(refusal),
         op::WRITE_FUNCTION_ID..=op::ENTRY_CONTEXT => match write(q.op, &q.call[1..]) {
-            (own, _) if own != q.call => Err((NO_PART, 0)),
+            (own, _) if own != q.call => Err((WRONG_PART, 0)),
             (_, word) => word.map(|word| a.regs[0] = word),
         },
-        _ => Err((NO_OPERATION, q.op)),
+        _ => Err((UNKNOWN_OPERATION, q.op)),
     };
     if let Err(no) = refused {
         (a.refusal, a.carried) = no;

@@ -1,7 +1,7 @@
 //! The answers of embed/rust to the operations of Change 1, which arm-psci lacks. Nine words that stand for no call have the record's own refusals.
 use super::answers::{No, refusal};
-use super::nine_words::{NineWords, call, entry, mpidr, nine_words, to_call, to_entry};
-use crate::{NO_PART, NO_TAG, Record, op};
+use super::nine_words::{NineWords, call, entry, mpidr, nine_words, tag, to_call, to_entry};
+use crate::{Record, UNKNOWN_TAG, WRONG_PART, op};
 use rampcomfrey::{Function, OriginalFunction, OriginalPowerState, StatelessFunction};
 
 /// Power down, state ID, level.
@@ -16,9 +16,13 @@ fn to_state(p: &[u64]) -> OriginalPowerState {
 
 fn words(f: OriginalFunction) -> NineWords {
     match f {
-        OriginalFunction::CpuSuspend { state, entry: e } => nine_words(1, &[parts(state), entry(e)].concat()),
-        OriginalFunction::StatResidency { target_cpu, power_state } => nine_words(20, &[&mpidr(target_cpu)[..], &parts(power_state)].concat()),
-        OriginalFunction::StatCount { target_cpu, power_state } => nine_words(21, &[&mpidr(target_cpu)[..], &parts(power_state)].concat()),
+        OriginalFunction::CpuSuspend { state, entry: e } => nine_words(tag::CPU_SUSPEND, &[parts(state), entry(e)].concat()),
+        OriginalFunction::StatResidency { target_cpu, power_state } => {
+            nine_words(tag::STAT_RESIDENCY, &[&mpidr(target_cpu)[..], &parts(power_state)].concat())
+        }
+        OriginalFunction::StatCount { target_cpu, power_state } => {
+            nine_words(tag::STAT_COUNT, &[&mpidr(target_cpu)[..], &parts(power_state)].concat())
+        }
         OriginalFunction::Other(other) => call(other.into()),
     }
 }
@@ -51,18 +55,18 @@ fn to_original(w: &NineWords) -> OriginalFunction {
 
 /// The call that a record asks with, or the record's own refusal of its words.
 fn asked(w: &NineWords) -> Result<OriginalFunction, No> {
-    if w[0] > 21 {
-        return Err((NO_TAG, w[0]));
+    if w[0] > tag::LAST {
+        return Err((UNKNOWN_TAG, w[0]));
     }
     let f = to_original(w);
-    if words(f) == *w { Ok(f) } else { Err((NO_PART, 0)) }
+    if words(f) == *w { Ok(f) } else { Err((WRONG_PART, 0)) }
 }
 
 /// The word of the power state that a record asks with.
 fn written(w: &NineWords) -> Result<u32, No> {
     let state = to_state(&w[1..]);
     if nine_words(0, &parts(state)) != *w {
-        return Err((NO_PART, 0));
+        return Err((WRONG_PART, 0));
     }
     u32::try_from(state).map_err(refusal)
 }

@@ -388,7 +388,7 @@ fn encode_some(calls: &[&[Part]; 22], ops: [u64; 2], seed: u64, count: u64, ask:
         for part in calls[tag as usize] {
             some_part(*part, &mut rng, &mut parts);
         }
-        if tag == 3 && rng.below(8) != 0 {
+        if tag == tag::CPU_ON && rng.below(8) != 0 {
             // mostly one form
             parts[5] = parts[0];
             if parts[0] == 0 {
@@ -467,9 +467,9 @@ fn original_parts(ask: &mut dyn FnMut(Record)) {
         for id in [0, 0xffff, 0x1_0000, 0x1_0001, 0x1_ffff, 1 << 32, u64::MAX] {
             for level in [0, 3, 4, 0xff, 0x100, 0x101, 0x1ff, 1 << 32, u64::MAX] {
                 for op in [op::ENCODE_ORIGINAL, op::FUNCTION_ID_ORIGINAL] {
-                    ask_call(op, 1, &[down, id, level, 1, 2, 3], salt.word(), ask);
-                    ask_call(op, 20, &[0, 0, 3, 2, 1, down, id, level], salt.word(), ask);
-                    ask_call(op, 21, &[1, 4, 3, 2, 1, down, id, level], salt.word(), ask);
+                    ask_call(op, tag::CPU_SUSPEND, &[down, id, level, 1, 2, 3], salt.word(), ask);
+                    ask_call(op, tag::STAT_RESIDENCY, &[0, 0, 3, 2, 1, down, id, level], salt.word(), ask);
+                    ask_call(op, tag::STAT_COUNT, &[1, 4, 3, 2, 1, down, id, level], salt.word(), ask);
                 }
                 ask_call(op::WRITE_POWER_STATE_ORIGINAL, 0, &[down, id, level], salt.word(), ask);
             }

@@ -107,6 +107,6 @@ pub mod op {
 }
 
 /// A record's own refusals, beside the papers': no such operation, no such tag, a part that has no room in its slot.
-pub const NO_OPERATION: u64 = 1001;
-pub const NO_TAG: u64 = 1002;
-pub const NO_PART: u64 = 1003;
+pub const UNKNOWN_OPERATION: u64 = 1001;
+pub const UNKNOWN_TAG: u64 = 1002;
+pub const WRONG_PART: u64 = 1003;

@@ -6,6 +6,15 @@ use super::psci::*;
 
 pub type NineWords = [u64; 9];
 
+/// The tags that are named outside of `call` and `to_call`.
+pub mod tag {
+    pub const CPU_SUSPEND: u64 = 1;
+    pub const CPU_ON: u64 = 3;
+    pub const STAT_RESIDENCY: u64 = 20;
+    pub const STAT_COUNT: u64 = 21;
+    pub const LAST: u64 = STAT_COUNT;
+}
+
 pub const CODES: [ErrorCode; 9] = {
     use ErrorCode::*;
     [
@@ -153,9 +162,9 @@ pub fn call(f: Function) -> NineWords {
     use Function as F;
     match f {
         F::Version => nine_words(0, &[]),
-        F::CpuSuspend { state, entry: e } => nine_words(1, &join(&power(state), &entry(e))),
+        F::CpuSuspend { state, entry: e } => nine_words(tag::CPU_SUSPEND, &join(&power(state), &entry(e))),
         F::CpuOff => nine_words(2, &[]),
-        F::CpuOn { target_cpu, entry: e } => nine_words(3, &join(&mpidr(target_cpu), &entry(e))),
+        F::CpuOn { target_cpu, entry: e } => nine_words(tag::CPU_ON, &join(&mpidr(target_cpu), &entry(e))),
         F::AffinityInfo { mpidr: m, lowest_affinity_level: l } => nine_words(4, &join(&mpidr(m), &[l.into()])),
         F::Migrate { target_affinity } => nine_words(5, &mpidr(target_affinity)),
         F::MigrateInfoType => nine_words(6, &[]),
@@ -172,8 +181,8 @@ pub fn call(f: Function) -> NineWords {
         F::NodeHwState { target_cpu, power_level } => nine_words(17, &join(&mpidr(target_cpu), &[power_level.into()])),
         F::SystemSuspend { entry: e } => nine_words(18, &entry(e)),
         F::SetSuspendMode { mode: m } => nine_words(19, &mode(m)),
-        F::StatResidency { target_cpu, power_state } => nine_words(20, &join(&mpidr(target_cpu), &power(power_state))),
-        F::StatCount { target_cpu, power_state } => nine_words(21, &join(&mpidr(target_cpu), &power(power_state))),
+        F::StatResidency { target_cpu, power_state } => nine_words(tag::STAT_RESIDENCY, &join(&mpidr(target_cpu), &power(power_state))),
+        F::StatCount { target_cpu, power_state } => nine_words(tag::STAT_COUNT, &join(&mpidr(target_cpu), &power(power_state))),
     }
 }
 
@@ -182,9 +191,9 @@ pub fn to_call(w: &NineWords) -> Function {
     let p = &w[1..];
     match w[0] {
         0 => F::Version,
-        1 => F::CpuSuspend { state: to_power(p), entry: to_entry(&p[2..]) },
+        tag::CPU_SUSPEND => F::CpuSuspend { state: to_power(p), entry: to_entry(&p[2..]) },
         2 => F::CpuOff,
-        3 => F::CpuOn { target_cpu: to_mpidr(p), entry: to_entry(&p[5..]) },
+        tag::CPU_ON => F::CpuOn { target_cpu: to_mpidr(p), entry: to_entry(&p[5..]) },
         4 => F::AffinityInfo { mpidr: to_mpidr(p), lowest_affinity_level: p[5] as u32 },
         5 => F::Migrate { target_affinity: to_mpidr(p) },
         6 => F::MigrateInfoType,
@@ -201,8 +210,8 @@ pub fn to_call(w: &NineWords) -> Function {
         17 => F::NodeHwState { target_cpu: to_mpidr(p), power_level: p[5] as u32 },
         18 => F::SystemSuspend { entry: to_entry(p) },
         19 => F::SetSuspendMode { mode: to_mode(p) },
-        20 => F::StatResidency { target_cpu: to_mpidr(p), power_state: to_power(&p[5..]) },
-        21 => F::StatCount { target_cpu: to_mpidr(p), power_state: to_power(&p[5..]) },
-        tag => unreachable!("tag {tag}"),
+        tag::STAT_RESIDENCY => F::StatResidency { target_cpu: to_mpidr(p), power_state: to_power(&p[5..]) },
+        tag::STAT_COUNT => F::StatCount { target_cpu: to_mpidr(p), power_state: to_power(&p[5..]) },
+        other => unreachable!("tag {other}"),
     }
 }

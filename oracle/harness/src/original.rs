@@ -6,8 +6,8 @@
 //! one that it refuses where this word is refused, else one that it accepts. So which refusal comes first is the Rust's too: where it says 2 or 15,
 //! the answer is 26 or 27. A call without a power state is the Rust's answer as it is.
 use crate::published::answers::No;
-use crate::published::nine_words::{NineWords, nine_words};
-use crate::{NO_PART, Record, op, oracle};
+use crate::published::nine_words::{NineWords, nine_words, tag};
+use crate::{Record, WRONG_PART, op, oracle};
 
 const PSCI_0_2_FN_CPU_SUSPEND: u32 = 0x8400_0001;
 const PSCI_0_2_FN64_CPU_SUSPEND: u32 = 0xc400_0001;
@@ -55,7 +55,7 @@ fn read(word: u32) -> Result<[u64; 3], No> {
 fn write(parts: &[u64]) -> Result<u32, No> {
     let (down, id, level) = (parts[0] as u32, parts[1] as u32, parts[2] as u32);
     if parts[0] > 1 || parts[1] > 0xffff || parts[2] > 0xff {
-        return Err((NO_PART, 0));
+        return Err((WRONG_PART, 0));
     }
     let high = level << PSCI_0_2_POWER_STATE_AFFL_SHIFT;
     if high & !PSCI_0_2_POWER_STATE_AFFL_MASK != 0 {
@@ -77,8 +77,8 @@ pub fn register(r0: u64) -> Option<usize> {
 /// Where the parts of the power state begin in the nine words of a call with this tag: of suspend, residency and count.
 pub fn state_at(tag: u64) -> Option<usize> {
     match tag {
-        1 => Some(1),
-        20 | 21 => Some(6),
+        tag::CPU_SUSPEND => Some(1),
+        tag::STAT_RESIDENCY | tag::STAT_COUNT => Some(6),
         _ => None,
     }
 }
@@ -130,7 +130,7 @@ fn encode(q: &Record) -> Record {
     let asked = Record { op: if q.op == op::ENCODE_ORIGINAL { op::ENCODE } else { op::FUNCTION_ID }, ..*q };
     let Some(at) = state_at(q.call[0]) else { return rust(q, asked) };
     let word = write(&q.call[at..at + 3]);
-    if let Err(no @ (NO_PART, _)) = word {
+    if let Err(no @ (WRONG_PART, _)) = word {
         return refused(q, no);
     }
     let got = rust(q, Record { call: with_two(&q.call, at, stand_in(&word)), ..asked });
@@ -157,7 +157,7 @@ fn read_word(q: &Record) -> Record {
 fn write_word(q: &Record) -> Record {
     let [tag, down, id, level, rest @ ..] = q.call;
     if tag != 0 || rest != [0; 5] {
-        return refused(q, (NO_PART, 0));
+        return refused(q, (WRONG_PART, 0));
     }
     match write(&[down, id, level]) {
         Ok(word) => Record { regs: [word.into(), q.regs[1], q.regs[2], q.regs[3]], refusal: 0, carried: 0, ..*q },

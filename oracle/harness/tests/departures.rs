@@ -2,7 +2,7 @@
 use arm_psci::{Cookie, Error, Function, PowerState, ResetType};
 use harness::nine_words::{NineWords, call};
 use harness::original::{self, ACCEPTED, REFUSED};
-use harness::{Record, inputs, low_half_for_protect, op, oracle, quiet_panics, refusal};
+use harness::{Record, WRONG_PART, inputs, low_half_for_protect, op, oracle, quiet_panics, refusal};
 
 fn written(vendor_type: u32) -> [u64; 4] {
     let mut words = [!0; 4];
@@ -73,7 +73,7 @@ fn calls_with_an_original_power_state() {
     assert_eq!(encoded([1, 1, 0xffff, 3, 0, 5, 6, 0, 0]), Ok([0x8400_0001, 0x301_ffff, 5, 6]));
     assert_eq!(encoded([20, 1, 4, 3, 2, 1, 0, 7, 2]), Ok([0xc400_0010, 0x4_0003_0201, 0x200_0007, 0]));
     assert_eq!(encoded([21, 0, 0, 3, 2, 1, 1, 0, 4]), Err((27, 4)));
-    assert_eq!(encoded([21, 0, 0, 3, 2, 1, 1, 0x1_0000, 4]), Err((1003, 0)));
+    assert_eq!(encoded([21, 0, 0, 3, 2, 1, 1, 0x1_0000, 4]), Err((WRONG_PART, 0)));
     assert_eq!(encoded([3, 0, 0, 3, 2, 1, 1, 5, 6]), Err((14, 0)));
 }
 

@@ -1,5 +1,5 @@
 //! That a sweep asks what it says, and that its digest is what a program makes that knows the block's bytes alone.
-use harness::sweep::{Digest, blocks, groups, operations};
+use harness::sweep::{Digest, SWEEP, blocks, groups, operations};
 use harness::{Record, inputs, op, oracle, quiet_panics};
 
 const WIDE: [u64; 3] = [op::READ_ERROR_CODE_64, op::READ_MPIDR_64, op::READ_MPIDR_REGISTER];
@@ -61,7 +61,7 @@ fn digests() {
         for block in blocks(op, 19) {
             let bytes = block.answered(&mut |_| {}).bytes();
             let w: Vec<u64> = bytes.chunks(8).map(|c| u64::from_be_bytes(c.try_into().unwrap())).collect();
-            assert_eq!((w[0], w[1], w[14]), (2000, op, 0));
+            assert_eq!((w[0], w[1], w[14]), (SWEEP, op, 0));
             assert!(w[2] < 64 && w[3] <= 65_536);
             assert_eq!(w[15], asked_anew(&w), "{op}");
         }

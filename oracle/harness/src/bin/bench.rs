@@ -7,7 +7,8 @@ use arm_psci::{Function, Mpidr};
 use harness::inputs::{AFFINITIES, Rng};
 use harness::line::{self, Written};
 use harness::rattle::{self, Refusal};
-use harness::{inputs, low_half_for_protect, nine_words, original, refusal};
+use harness::nine_words::{self, tag};
+use harness::{UNKNOWN_TAG, WRONG_PART, inputs, low_half_for_protect, original, refusal};
 use std::hint::black_box;
 use std::time::Instant;
 
@@ -41,12 +42,12 @@ extern "C" fn rust_decode_smccc(regs: &[u64; 4], out: &mut [u64; 9]) -> Refusal 
 
 #[inline(never)]
 extern "C" fn rust_encode(call: &[u64; 9], out: &mut [u64; 4]) -> Refusal {
-    if call[0] > 21 {
-        return Refusal { number: 1002, carried: call[0] };
+    if call[0] > tag::LAST {
+        return Refusal { number: UNKNOWN_TAG, carried: call[0] };
     }
     let f = nine_words::to_call(call);
     if nine_words::call(f) != *call {
-        return Refusal { number: 1003, carried: 0 };
+        return Refusal { number: WRONG_PART, carried: 0 };
     }
     f.copy_to_array(out);
     ACCEPTED
