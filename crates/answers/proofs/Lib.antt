@@ -5,3 +5,4 @@ pub mod Inverting
 pub mod Lending
 pub mod LentLaws
 pub mod Refusals
+pub mod Telling

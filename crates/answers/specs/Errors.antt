@@ -1,8 +1,10 @@
 -- Document 01, "What is turned back, by operation": the number of each refusal, and the value that it carries. 26 and 27 are
 -- document 02's Change 1, 31 is its Change 5.
+use mathlib.Core.List.{List, [], _∷_}
 use Prim.Native.Nat.{ℕ}
-use lib.IntN.{ℤ, pos}
+use lib.IntN.{ℤ, pos, natAbs}
 use Rattle.answers.specs.Answers.{Answer, accepted, refused}
+use Rattle.answers.specs.Refusals.{Refusals, RefusalLaws}
 use Rattle.answers.specs.declared.Error.{Error}
 use Rattle.answers.specs.declared.Error.the-variants.{UnrecognisedFunctionId, InvalidPowerState, InvalidMpidr32, InvalidMpidr64, InvalidLowerAffinityLevel, UnrecognisedSystemOff2Type, UnrecognisedSystemReset2Type, UnrecognisedSuspendMode, UnrecognisedErrorCode, OverflowingErrorCode, InvalidVersion, UnrecognisedHwState, IgnoredNonZeroAff3, MixedCallForms, InvalidStateId, InvalidMajorVersion, WrongLength, InvalidOriginalPowerState, InvalidPowerLevel, InvalidVendorType}
 use Rattle.answers.specs.declared.WordResult.{WordResult}
@@ -59,3 +61,35 @@ refusal e = refused (refusalNumber e) (refusalValue e)
 abbrev pub wordAnswer : WordResult → Answer ℕ
 wordAnswer (Ok word) = accepted word
 wordAnswer (Err e) = refusal e
+
+-- all of them, each with the value that it would carry
+abbrev pub errorCases : ℤ → List Error
+errorCases value =
+    UnrecognisedFunctionId (natAbs value) ∷
+    InvalidPowerState (natAbs value) ∷
+    InvalidMpidr32 (natAbs value) ∷
+    InvalidMpidr64 (natAbs value) ∷
+    InvalidLowerAffinityLevel (natAbs value) ∷
+    UnrecognisedSystemOff2Type (natAbs value) ∷
+    UnrecognisedSystemReset2Type (natAbs value) ∷
+    UnrecognisedSuspendMode (natAbs value) ∷
+    UnrecognisedErrorCode value ∷
+    OverflowingErrorCode value ∷
+    InvalidVersion (natAbs value) ∷
+    UnrecognisedHwState (natAbs value) ∷
+    IgnoredNonZeroAff3 (natAbs value) ∷
+    MixedCallForms ∷
+    InvalidStateId (natAbs value) ∷
+    InvalidMajorVersion (natAbs value) ∷
+    WrongLength (natAbs value) ∷
+    InvalidOriginalPowerState (natAbs value) ∷
+    InvalidPowerLevel (natAbs value) ∷
+    InvalidVendorType (natAbs value) ∷
+    []
+
+abbrev pub codecRefusals : Refusals
+codecRefusals = record { Refusal = Error; number = refusalNumber; value = refusalValue; cases = errorCases }
+
+-- proved in proofs/Refusals.antt
+abbrev pub ErrorLaws : Type 0
+ErrorLaws = RefusalLaws codecRefusals

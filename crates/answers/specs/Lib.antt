@@ -1,7 +1,7 @@
 pub mod Answers
-pub mod ErrorLaws
 pub mod Errors
 pub mod Inverses
 pub mod Lent
 pub mod LentLaws
+pub mod Refusals
 pub mod Told

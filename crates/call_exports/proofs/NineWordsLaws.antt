@@ -5,9 +5,8 @@ use Prim.Native.Nat.{ℕ}
 use lib.ListN.{length}
 use Rattle.answers.specs.Answers.{Answer, accepted, refused, through, andThen}
 use Rattle.answers.proofs.Answering.{same-accepted}
-use Rattle.roundtrip.specs.Codec.{Codec, Registers, wordsIn, Demand3}
+use Rattle.roundtrip.specs.Codec.{Codec, encodeBy, recodeBy, Registers, wordsIn, Demand3}
 use Rattle.roundtrip.specs.Document01.{document01}
-use Rattle.roundtrip.specs.Recode.{recodeBy}
 use Rattle.roundtrip.specs.Smccc.{smccc}
 use Rattle.roundtrip.proofs.TwoCodecs.{demand3-of-01, demand3-of-smccc}
 use Rattle.call_exports.specs.Exports.{encodeAsked}
@@ -25,19 +24,19 @@ module _ (c : Codec) (w : Worded (c .Call)) (d3 : Demand3 c)
 
   -- what encoding gives of a decoded call's words is what it gives of the call
   asked-again : (r : List ℕ) (f : c .Call) → Registers r → c .decode r ≡ accepted f → (run : List ℕ) →
-      encodeAsked (w .asked) (c .encode) (w .words f) run ≡ c .encode f run
-  asked-again r f h d run = ap (λ (a : Answer (c .Call)). andThen a (λ g. c .encode g run)) (own f (fit r f h d))
+      encodeAsked (w .asked) (encodeBy c) (w .words f) run ≡ encodeBy c f run
+  asked-again r f h d run = ap (λ (a : Answer (c .Call)). andThen a (λ g. encodeBy c g run)) (own f (fit r f h d))
 
   taken : (r : List ℕ) (f : c .Call) → Registers r → c .decode r ≡ accepted f → (run : List ℕ) → length run ≡ 4 →
-      encodeAsked (w .asked) (c .encode) (w .words f) run ≡ accepted (wordsIn c f run)
+      encodeAsked (w .asked) (encodeBy c) (w .words f) run ≡ accepted (wordsIn c f run)
   taken r f h d run l = asked-again r f h d run ∙ d3 .of-one r f h d run l .written
 
   recoded : (r run : List ℕ) → Registers r →
-      andThen (through (w .words) (c .decode r)) (λ words. encodeAsked (w .asked) (c .encode) words run) ≡ recodeBy c r run
+      andThen (through (w .words) (c .decode r)) (λ words. encodeAsked (w .asked) (encodeBy c) words run) ≡ recodeBy c r run
   recoded r run h = met (c .decode r) refl
     where
       met : (x : Answer (c .Call)) → c .decode r ≡ x →
-          andThen (through (w .words) x) (λ words. encodeAsked (w .asked) (c .encode) words run) ≡ andThen x (λ f. c .encode f run)
+          andThen (through (w .words) x) (λ words. encodeAsked (w .asked) (encodeBy c) words run) ≡ andThen x (λ f. encodeBy c f run)
       met (accepted f) e = asked-again r f h e run
       met (refused number value) e = refl
 

@@ -6,9 +6,8 @@ use Prim.Native.Nat.{ℕ}
 use lib.ListN.{length}
 use Rattle.answers.specs.Answers.{Answer, accepted, through, andThen}
 use Rattle.function.specs.declared.Function.{Function}
-use Rattle.roundtrip.specs.Codec.{Codec, Registers, wordsIn}
+use Rattle.roundtrip.specs.Codec.{Codec, encodeBy, recodeBy, Registers, wordsIn}
 use Rattle.roundtrip.specs.Document01.{document01}
-use Rattle.roundtrip.specs.Recode.{recodeBy}
 use Rattle.roundtrip.specs.Smccc.{smccc}
 use Rattle.call_exports.specs.CallAsked.{callAsked}
 use Rattle.call_exports.specs.NineWords.{callParts, nineWords}
@@ -33,10 +32,10 @@ module _ (c : Codec) (w : Worded (c .Call)) where
     pub fit : (r : List ℕ) (f : c .Call) → Registers r → c .decode r ≡ accepted f → Fit (w .parts f)
     -- so encoding does not refuse its words, into a run of four numbers, and leaves what it leaves of the call
     pub taken : (r : List ℕ) (f : c .Call) → Registers r → c .decode r ≡ accepted f → (run : List ℕ) → length run ≡ 4 →
-        encodeAsked (w .asked) (c .encode) (w .words f) run ≡ accepted (wordsIn c f run)
+        encodeAsked (w .asked) (encodeBy c) (w .words f) run ≡ accepted (wordsIn c f run)
     -- decoding to nine words, and then encoding those, is recoding
     pub recoded : (r run : List ℕ) → Registers r →
-        andThen (through (w .words) (c .decode r)) (λ words. encodeAsked (w .asked) (c .encode) words run) ≡ recodeBy c r run
+        andThen (through (w .words) (c .decode r)) (λ words. encodeAsked (w .asked) (encodeBy c) words run) ≡ recodeBy c r run
 
 -- document 01's calls, which Change 2's decoder gives too
 abbrev pub worded : Worded Function

@@ -4,11 +4,12 @@ ghost use mathlib.Core.List.{List};
 ghost use mathlib.Core.Path.{_≡_};
 ghost use Prim.Native.Nat.{ℕ};
 ghost use Rattle.answers.specs.Answers.{through};
-ghost use Rattle.answers.specs.Lent.{left};
+ghost use Rattle.answers.specs.Lent.{Writes};
 ghost use Rattle.answers.specs.Told.{refusalIn};
 ghost use Rattle.decode_definition.specs.Decode.{decodeOf, decodeSmccc};
 ghost use Rattle.encode.specs.Answers.{encodeAnswer};
-ghost use Rattle.roundtrip.specs.Recode.{recodeOf, recodeSmccc};
+ghost use Rattle.roundtrip.specs.Document01.{recodeOf};
+ghost use Rattle.roundtrip.specs.Smccc.{recodeSmccc};
 ghost use Rattle.call_exports.specs.NineWords.{nineWords};
 ghost use Rattle.call_exports.specs.Exports.{stored, encodeWords};
 
@@ -63,7 +64,7 @@ pub fn told_words(answer: EncodeResult) -> Refusal
 // The nine words of the call that four registers make. Refused with decode's numbers, 1 to 8; the lent words are then as they were.
 #[no_mangle]
 pub extern "C" fn psci_decode(regs: &[u64; 4], out: &mut [u64; 9]) -> Refusal
-    ensures { λ r. ⌜ (r ≡ refusalIn (decodeOf (now (regs .entry)))) × (now (out .exit) ≡ left (through nineWords (decodeOf (now (regs .entry)))) (now (out .entry))) ⌝ }
+    ensures writes { λ r. ⌜ Writes refusalIn (through nineWords (decodeOf (now (regs .entry)))) (now (out .entry)) r (now (out .exit)) ⌝ }
 {
     let r = *regs;
     match decode::decode(r) {
@@ -79,7 +80,7 @@ pub extern "C" fn psci_decode(regs: &[u64; 4], out: &mut [u64; 9]) -> Refusal
 // `decode_smccc` itself: the compiler copies an answer that comes through two functions (docs/BENCHMARKS.md).
 #[no_mangle]
 pub extern "C" fn psci_decode_smccc(regs: &[u64; 4], out: &mut [u64; 9]) -> Refusal
-    ensures { λ r. ⌜ (r ≡ refusalIn (decodeSmccc (now (regs .entry)))) × (now (out .exit) ≡ left (through nineWords (decodeSmccc (now (regs .entry)))) (now (out .entry))) ⌝ }
+    ensures writes { λ r. ⌜ Writes refusalIn (through nineWords (decodeSmccc (now (regs .entry)))) (now (out .entry)) r (now (out .exit)) ⌝ }
 {
     let r = *regs;
     match decode::decode(low_half_for_protect(r)) {
@@ -95,7 +96,7 @@ pub extern "C" fn psci_decode_smccc(regs: &[u64; 4], out: &mut [u64; 9]) -> Refu
 // or 31; the lent words are then as they were.
 #[no_mangle]
 pub extern "C" fn psci_encode(call: &[u64; 9], out: &mut [u64; 4]) -> Refusal
-    ensures { λ r. ⌜ (r ≡ refusalIn (encodeWords (now (call .entry)) (now (out .entry)))) × (now (out .exit) ≡ left (encodeWords (now (call .entry)) (now (out .entry))) (now (out .entry))) ⌝ }
+    ensures writes { λ r. ⌜ Writes refusalIn (encodeWords (now (call .entry)) (now (out .entry))) (now (out .entry)) r (now (out .exit)) ⌝ }
 {
     let c = *call;
     match call_asked(c) {
@@ -114,7 +115,7 @@ pub extern "C" fn psci_encode(call: &[u64; 9], out: &mut [u64; 4]) -> Refusal
 // Decodes four registers and encodes the call. Refused with decode's numbers, 1 to 8, and with no other; the lent words are then as they were.
 #[no_mangle]
 pub extern "C" fn psci_recode(regs: &[u64; 4], out: &mut [u64; 4]) -> Refusal
-    ensures { λ r. ⌜ (r ≡ refusalIn (recodeOf (now (regs .entry)) (now (out .entry)))) × (now (out .exit) ≡ left (recodeOf (now (regs .entry)) (now (out .entry))) (now (out .entry))) ⌝ }
+    ensures writes { λ r. ⌜ Writes refusalIn (recodeOf (now (regs .entry)) (now (out .entry))) (now (out .entry)) r (now (out .exit)) ⌝ }
 {
     let r = *regs;
     told_words(roundtrip::recode(r, out))
@@ -123,7 +124,7 @@ pub extern "C" fn psci_recode(regs: &[u64; 4], out: &mut [u64; 4]) -> Refusal
 // The same by Change 2's decoder: memory protect is written by the low half of r1. Refused as `psci_recode` refuses.
 #[no_mangle]
 pub extern "C" fn psci_recode_smccc(regs: &[u64; 4], out: &mut [u64; 4]) -> Refusal
-    ensures { λ r. ⌜ (r ≡ refusalIn (recodeSmccc (now (regs .entry)) (now (out .entry)))) × (now (out .exit) ≡ left (recodeSmccc (now (regs .entry)) (now (out .entry))) (now (out .entry))) ⌝ }
+    ensures writes { λ r. ⌜ Writes refusalIn (recodeSmccc (now (regs .entry)) (now (out .entry))) (now (out .entry)) r (now (out .exit)) ⌝ }
 {
     let r = *regs;
     told_words(roundtrip::recode_smccc(r, out))

@@ -3,7 +3,8 @@ ghost use mathlib.Core.Path.{_≡_};
 
 // The bits in which two runs of nine words differ: 0 exactly where they are equal.
 pub fn differing_bits(c: [u64; 9], d: [u64; 9]) -> u64
-    ensures { λ r. ⌜ (r ≡ 0 → c ≡ d) × (c ≡ d → r ≡ 0) ⌝ }
+    ensures only_equal { λ r. ⌜ (r ≡ 0 → c ≡ d) ⌝ }
+    ensures all_equal { λ r. ⌜ (c ≡ d → r ≡ 0) ⌝ }
 {
     (c[0] ^ d[0])
         | (c[1] ^ d[1])

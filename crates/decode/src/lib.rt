@@ -23,8 +23,8 @@ use words::SuspendMode;
 use words::SystemOff2Type;
 
 // The call that four registers make. Refused with 1 is a number that no function has, then what docs/REFUSALS.md lists for the fields, level
-// before MPIDR before power state; bits that no field has are ignored. One match on the number, and each arm returns for itself: the answer is then written where the caller
-// wants it, and not copied from one arm's place to the next (docs/BENCHMARKS.md).
+// before MPIDR before power state; bits that no field has are ignored. Memory protect looks at all 64 bits of r1. One match on the number, and each arm
+// returns for itself: the answer is then written where the caller wants it, and not copied from arm to arm (docs/BENCHMARKS.md).
 pub fn decode(regs: [u64; 4]) -> FunctionResult
     ensures { λ r. ⌜ functionAnswer r ≡ decodeOf regs ⌝ }
 {

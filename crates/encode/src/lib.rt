@@ -3,7 +3,7 @@ ghost use mathlib.Core.Path.{_≡_};
 ghost use mathlib.Core.List.{_∷_, []};
 ghost use lib.ListN.{length};
 ghost use Rattle.answers.specs.Answers.{accepted};
-ghost use Rattle.answers.specs.Lent.{left};
+ghost use Rattle.answers.specs.Lent.{Writes, itself};
 ghost use Rattle.function_ids.specs.FunctionIds.{functionNumber};
 ghost use Rattle.encode_definition.specs.Encode.{encodeOf, writtenOf};
 ghost use Rattle.encode.specs.Answers.{encodeAnswer};
@@ -31,7 +31,7 @@ pub enum EncodeResult {
 // Writes the four words of a call. Refused in this order, and the run left as it was: a run not four numbers long with 17; a CPU on whose
 // MPIDR and entry differ in form with 14, or a state ID above 0x0fffffff with 15, or a vendor type above 0x7fffffff with 31.
 pub fn encode(function: Function, out: &mut [u64]) -> EncodeResult
-    ensures { λ r. ⌜ (encodeAnswer r (now (out .exit)) ≡ encodeOf function (now (out .entry))) × (now (out .exit) ≡ left (encodeOf function (now (out .entry))) (now (out .entry))) ⌝ }
+    ensures writes { λ r. ⌜ Writes itself (encodeOf function (now (out .entry))) (now (out .entry)) (encodeAnswer r (now (out .exit))) (now (out .exit)) ⌝ }
 {
     let length = out.len();
     if length != RUN {
@@ -47,7 +47,7 @@ pub fn encode(function: Function, out: &mut [u64]) -> EncodeResult
 // the arguments, with their own refusal. The number is sure: where one may be refused, as in `encode`, the caller asks for it first. With an answer for
 // it as the parameter, and one test of the length, `encode` takes some twelve instructions more (docs/BENCHMARKS.md).
 pub fn write(function_id: FunctionId, arguments: ArgumentsResult, out: &mut [u64]) -> EncodeResult
-    ensures { λ r. ⌜ (encodeAnswer r (now (out .exit)) ≡ writtenOf (accepted «function_id») (argumentsAnswer arguments) (now (out .entry))) × (now (out .exit) ≡ left (writtenOf (accepted «function_id») (argumentsAnswer arguments) (now (out .entry))) (now (out .entry))) ⌝ }
+    ensures writes { λ r. ⌜ Writes itself (writtenOf (accepted «function_id») (argumentsAnswer arguments) (now (out .entry))) (now (out .entry)) (encodeAnswer r (now (out .exit))) (now (out .exit)) ⌝ }
 {
     let length = out.len();
     if length != RUN {

@@ -16,18 +16,19 @@ use Rattle.encode_definition.specs.Arguments.{argumentsOf}
 abbrev pub withNumber : Answer FunctionId → Answer (List ℕ) → Answer (List ℕ)
 withNumber number arguments = andThen number (λ id. through (λ words. functionNumber id ∷ words) arguments)
 
--- refusal 17 first: a lent run not exactly four numbers long
-abbrev pub inFour : Answer (List ℕ) → List ℕ → Answer (List ℕ)
-inFour words run = cond (eqb (length run) 4) words (refused 17 (pos (length run)))
-
--- a function number and arguments, written into a run
-unfoldable pub writtenOf : Answer FunctionId → Answer (List ℕ) → List ℕ → Answer (List ℕ)
-writtenOf number arguments run = inFour (withNumber number arguments) run
-
--- refusal 14 is the number's, 15 that of a power state, 31 that of a reset type
+-- a call's four words; refusal 14 is the number's, 15 that of a power state, 31 that of a reset type
 unfoldable pub wordsOf : Function → Answer (List ℕ)
 wordsOf f = withNumber (functionIdOf f) (argumentsOf f)
 
--- the arguments are three (`three-arguments` in proofs/Laws.antt), so the words are four as the run is, and all that `left` leaves in it
-unfoldable pub encodeOf : Function → List ℕ → Answer (List ℕ)
-encodeOf f run = writtenOf (functionIdOf f) (argumentsOf f) run
+-- four words for a lent run; refusal 17 first: a run not exactly four numbers long. The words of a call are four, as the run is (`three-arguments` in
+-- proofs/Laws.antt), and so all that `left` leaves in it
+abbrev pub inFour : Answer (List ℕ) → List ℕ → Answer (List ℕ)
+inFour words run = cond (eqb (length run) 4) words (refused 17 (pos (length run)))
+
+-- encoding: a call's words for a run
+abbrev pub encodeOf : Function → List ℕ → Answer (List ℕ)
+encodeOf f run = inFour (wordsOf f) run
+
+-- a function number and arguments for a run
+unfoldable pub writtenOf : Answer FunctionId → Answer (List ℕ) → List ℕ → Answer (List ℕ)
+writtenOf number arguments run = inFour (withNumber number arguments) run

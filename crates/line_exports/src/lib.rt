@@ -1,11 +1,9 @@
 // The line of a record, for the benchmark and callers in C.
 ghost use mathlib.Core.Path.{_≡_};
-ghost use lib.ListN.{length};
-ghost use Rattle.answers.specs.Answers.{through};
-ghost use Rattle.answers.specs.Lent.{left};
+ghost use Rattle.answers.specs.Lent.{Writes};
 ghost use Rattle.record_line.specs.Errors.{lineRefusalNumber, lineRefusalValue};
 ghost use Rattle.record_line.specs.Line.{lineOf};
-ghost use Rattle.line_exports.specs.Exports.{refusedLine, writtenIn};
+ghost use Rattle.line_exports.specs.Exports.{refusedLine, toldLine};
 use record_line::LineError;
 use record_line::LineResult;
 
@@ -31,7 +29,7 @@ fn refused_line(error: LineError) -> Written
 // with 24, a number above 1,899; the lent bytes are then as they were.
 #[no_mangle]
 pub extern "C" fn psci_line(number: usize, regs: &[u64; 4], out: &mut [u8; 80]) -> Written
-    ensures { λ r. ⌜ (r ≡ writtenIn (through length (lineOf number (now (regs .entry)) (now (out .entry))))) × (now (out .exit) ≡ left (lineOf number (now (regs .entry)) (now (out .entry))) (now (out .entry))) ⌝ }
+    ensures writes { λ r. ⌜ Writes toldLine (lineOf number (now (regs .entry)) (now (out .entry))) (now (out .entry)) r (now (out .exit)) ⌝ }
 {
     let r = *regs;
     match record_line::line(number, r, out) {

@@ -3,7 +3,7 @@
 ghost use mathlib.Core.Path.{_≡_};
 ghost use lib.ListN.{length, getD};
 ghost use Rattle.answers.specs.Answers.{through};
-ghost use Rattle.answers.specs.Lent.{left};
+ghost use Rattle.answers.specs.Lent.{Writes};
 ghost use Rattle.answers.specs.Told.{refusalIn};
 ghost use Rattle.words.specs.Mpidrs.{readMpidr64, mpidrAnswer, aff3Number};
 ghost use Rattle.mpidr_bench.specs.Exports.{affinityWords};
@@ -69,7 +69,7 @@ fn store(words: [u64; 4], out: &mut [u64])
 
 // A reader's answer as C takes it: affinities 0 to 3 in the lent words; or a refusal, which leaves them as they were.
 fn told(answer: MpidrResult, out: &mut [u64; 4]) -> Refusal
-    ensures { λ r. ⌜ (r ≡ refusalIn (mpidrAnswer answer)) × (now (out .exit) ≡ left (through affinityWords (mpidrAnswer answer)) (now (out .entry))) ⌝ }
+    ensures writes { λ r. ⌜ Writes refusalIn (through affinityWords (mpidrAnswer answer)) (now (out .entry)) r (now (out .exit)) ⌝ }
 {
     match answer {
         MpidrResult::Ok(mpidr) => {
@@ -83,7 +83,7 @@ fn told(answer: MpidrResult, out: &mut [u64; 4]) -> Refusal
 // The codec's reader, by the halves of the register: affinities 0 to 3. Refused with 4; the lent words are then as they were.
 #[no_mangle]
 pub extern "C" fn bench_mpidr_halves(register: &[u64; 1], out: &mut [u64; 4]) -> Refusal
-    ensures { λ r. ⌜ (r ≡ refusalIn (readMpidr64 (getD (now (register .entry)) 0 0))) × (now (out .exit) ≡ left (through affinityWords (readMpidr64 (getD (now (register .entry)) 0 0))) (now (out .entry))) ⌝ }
+    ensures writes { λ r. ⌜ Writes refusalIn (through affinityWords (readMpidr64 (getD (now (register .entry)) 0 0))) (now (out .entry)) r (now (out .exit)) ⌝ }
 {
     let r = *register;
     told(Mpidr::try_from_u64(r[0]), out)
@@ -92,7 +92,7 @@ pub extern "C" fn bench_mpidr_halves(register: &[u64; 1], out: &mut [u64; 4]) ->
 // The reader of the whole register, with the same answers.
 #[no_mangle]
 pub extern "C" fn bench_mpidr_whole(register: &[u64; 1], out: &mut [u64; 4]) -> Refusal
-    ensures { λ r. ⌜ (r ≡ refusalIn (readMpidr64 (getD (now (register .entry)) 0 0))) × (now (out .exit) ≡ left (through affinityWords (readMpidr64 (getD (now (register .entry)) 0 0))) (now (out .entry))) ⌝ }
+    ensures writes { λ r. ⌜ Writes refusalIn (through affinityWords (readMpidr64 (getD (now (register .entry)) 0 0))) (now (out .entry)) r (now (out .exit)) ⌝ }
 {
     let r = *register;
     told(try_from_whole(r[0]), out)

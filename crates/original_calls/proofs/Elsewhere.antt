@@ -1,6 +1,6 @@
 -- Outside the six numbers the codec is document 01's. Assumes nothing.
 use mathlib.Core.Path.{_≡_, refl, sym, ap, _∙_}
-use mathlib.Core.List.{List, [], _∷_}
+use mathlib.Core.List.{List}
 use mathlib.Core.Logic.{⊎-elim}
 use lib.ListN.{getD}
 use Prim.Native.Nat.{ℕ}
@@ -16,11 +16,11 @@ use Rattle.function.specs.Functions.{functionIdOf}
 use Rattle.function.specs.declared.Function.{Function}
 use Rattle.decode_definition.specs.Decode.{decodeOf}
 use Rattle.encode_definition.specs.Arguments.{argumentsOf}
-use Rattle.encode_definition.specs.Encode.{encodeOf, writtenOf}
+use Rattle.encode_definition.specs.Encode.{wordsOf}
 use Rattle.roundtrip.specs.Codec.{Registers}
-use Rattle.roundtrip.proofs.TwoCodecs.{written}
+use Rattle.roundtrip.proofs.TwoCodecs.{by-table-of-01}
 use Rattle.original_calls.specs.OriginalFunctions.{functionOf, withState, originalIdOf}
-use Rattle.original_calls.specs.OriginalCalls.{originalDecodeOf, originalArgumentsOf, originalEncodeOf}
+use Rattle.original_calls.specs.OriginalCalls.{originalDecodeOf, originalArgumentsOf, originalWordsOf}
 use Rattle.original_calls.specs.TwoFormats.{WithoutState, Same}
 use Rattle.original_calls.specs.declared.original_function.StatelessFunction.{StatelessFunction}
 use Rattle.original_calls.specs.declared.original_function.OriginalFunction.{OriginalFunction}
@@ -30,9 +30,9 @@ use Rattle.original_calls.proofs.Sorts.{suspend, residency, count, IsOt
 
 -- the function number of a call that a set was decoded as is the set's
 number-is : (r : List ℕ) (g : Function) → Registers r → decodeOf r ≡ accepted g → (f : FunctionId) × ((functionIdOf g ≡ accepted f) × (functionNumber f ≡ numberIn r))
-unfolding encodeOf writtenOf
+unfolding wordsOf
 number-is r g h d =
-    let o = came-then (functionIdOf g) _ (kept01 r) (written r g (0 ∷ 0 ∷ 0 ∷ 0 ∷ []) h refl d) in
+    let o = came-then (functionIdOf g) _ (kept01 r) (by-table-of-01 .writes r g h d) in
     let p = came-through _ (argumentsOf g) (kept01 r) (o .1 .1) in
     (o .0, (o .1 .0, ap (λ (w : List ℕ). getD w 0 0) (p .1 .1)))
 
@@ -64,9 +64,9 @@ decoded r h o = by (decodeOf r) refl
           of-there = e ∙ ap accepted (sym (k .back));
         }
 
-pub encoded : (g : StatelessFunction) (run : List ℕ) → originalEncodeOf (Other g) run ≡ encodeOf (functionOf g) run
-unfolding originalEncodeOf originalIdOf originalArgumentsOf encodeOf
-encoded g run = refl
+pub encoded : (g : StatelessFunction) → originalWordsOf (Other g) ≡ wordsOf (functionOf g)
+unfolding originalWordsOf originalIdOf originalArgumentsOf wordsOf
+encoded g = refl
 
 -- a call with an original power state has the number of document 01's with any of its own
 pub other : (f : OriginalFunction) (g : FunctionId) → originalIdOf f ≡ accepted g → WithoutState (functionNumber g) → (h : StatelessFunction) × (f ≡ Other h)

@@ -9,13 +9,12 @@ use Rattle.words.specs.ResetTypes.{writeResetType}
 use Rattle.function.specs.Functions.{functionIdOf}
 use Rattle.decode_definition.specs.Decode.{callIn, decodeBy, decodeOf}
 use Rattle.encode_definition.specs.Arguments.{argumentsOf}
-use Rattle.encode_definition.specs.Encode.{writtenOf}
 use Rattle.original_calls.specs.OriginalFunctions.{functionOf, withState, originalIdOf}
-use Rattle.original_calls.specs.OriginalCalls.{originalCallIn, originalDecodeOf, originalArgumentsOf, originalEncodeOf}
+use Rattle.original_calls.specs.OriginalCalls.{originalCallIn, originalDecodeOf, originalArgumentsOf, originalWordsOf}
 use Rattle.original_calls.specs.OriginalCases.{OriginalCases}
 
 pub original-cases : OriginalCases
-unfolding callIn decodeBy decodeOf ruleOf readFunctionId readMpidr32 readMpidr64 writeMpidr64 readPowerState writeResetType functionIdOf argumentsOf writtenOf readOriginalPowerState writeOriginalPowerState functionOf withState originalIdOf originalCallIn originalDecodeOf originalArgumentsOf originalEncodeOf
+unfolding callIn decodeBy decodeOf ruleOf readFunctionId readMpidr32 readMpidr64 writeMpidr64 readPowerState writeResetType functionIdOf argumentsOf readOriginalPowerState writeOriginalPowerState functionOf withState originalIdOf originalCallIn originalDecodeOf originalArgumentsOf originalWordsOf
 original-cases = record {
   full = refl;
   full-written = refl;

@@ -22,9 +22,9 @@ use Rattle.function.specs.declared.Function.{Function}
 use Rattle.function.specs.declared.Function.the-variants as of01
 use Rattle.decode_definition.specs.RefusalOrders.{ofCoreState}
 use Rattle.encode_definition.specs.Arguments.{three, argumentsOf}
-use Rattle.encode_definition.specs.Encode.{encodeOf, writtenOf}
+use Rattle.encode_definition.specs.Encode.{withNumber, wordsOf}
 use Rattle.original_calls.specs.OriginalFunctions.{withState, originalIdOf}
-use Rattle.original_calls.specs.OriginalCalls.{inState, originalArgumentsOf, originalEncodeOf}
+use Rattle.original_calls.specs.OriginalCalls.{inState, originalArgumentsOf, originalWordsOf}
 use Rattle.original_calls.specs.TwoFormats.{TheWord, SixRows, beforeEntry, afterMpidr, Alike, TwoFormats}
 use Rattle.original_calls.specs.declared.original_function.OriginalFunction.the-variants.{CpuSuspend, StatResidency, StatCount}
 use Rattle.original_calls.proofs.Sorts.{own}
@@ -72,26 +72,26 @@ six-rows the = record {
 
 -- ---- encoding
 
--- a call of document 01's is written by its number and its three words
-written-01 : (number : FunctionId) (around : ℕ → List ℕ) (g : Function) (old : PowerState) → functionIdOf g ≡ accepted number →
-    argumentsOf g ≡ through around (writePowerState old) → (run : List ℕ) → encodeOf g run ≡ writtenOf (accepted number) (through around (writePowerState old)) run
-unfolding encodeOf
-written-01 number around g old i a run = simp (i, a)
+-- the words of a call of document 01's, by its number and its three words
+words-01 : (number : FunctionId) (around : ℕ → List ℕ) (g : Function) (old : PowerState) → functionIdOf g ≡ accepted number →
+    argumentsOf g ≡ through around (writePowerState old) → wordsOf g ≡ withNumber (accepted number) (through around (writePowerState old))
+unfolding wordsOf
+words-01 number around g old i a = simp (i, a)
 
 suspend-alike : (s : OriginalPowerState) (old : PowerState) (e : EntryPoint) →
     Alike (inForm (entryForm e) id.CpuSuspend32 id.CpuSuspend64) (beforeEntry e) (CpuSuspend s e) s (of01.CpuSuspend old e) old
-unfolding originalEncodeOf originalIdOf functionIdOf originalArgumentsOf argumentsOf
-suspend-alike s old e = record { original = λ run. refl; extended = written-01 _ (beforeEntry e) _ old refl (through-twice _ three (writePowerState old)) }
+unfolding originalWordsOf originalIdOf functionIdOf originalArgumentsOf argumentsOf
+suspend-alike s old e = record { original = refl; extended = words-01 _ (beforeEntry e) _ old refl (through-twice _ three (writePowerState old)) }
 
 residency-alike : (s : OriginalPowerState) (old : PowerState) (m : Mpidr) →
     Alike (inForm (mpidrForm (m .aff3)) id.PsciStatResidency32 id.PsciStatResidency64) (afterMpidr m) (StatResidency m s) s (of01.StatResidency m old) old
-unfolding originalEncodeOf originalIdOf functionIdOf originalArgumentsOf argumentsOf
-residency-alike s old m = record { original = λ run. refl; extended = written-01 _ (afterMpidr m) _ old refl (through-twice _ three (writePowerState old)) }
+unfolding originalWordsOf originalIdOf functionIdOf originalArgumentsOf argumentsOf
+residency-alike s old m = record { original = refl; extended = words-01 _ (afterMpidr m) _ old refl (through-twice _ three (writePowerState old)) }
 
 count-alike : (s : OriginalPowerState) (old : PowerState) (m : Mpidr) →
     Alike (inForm (mpidrForm (m .aff3)) id.PsciStatCount32 id.PsciStatCount64) (afterMpidr m) (StatCount m s) s (of01.StatCount m old) old
-unfolding originalEncodeOf originalIdOf functionIdOf originalArgumentsOf argumentsOf
-count-alike s old m = record { original = λ run. refl; extended = written-01 _ (afterMpidr m) _ old refl (through-twice _ three (writePowerState old)) }
+unfolding originalWordsOf originalIdOf functionIdOf originalArgumentsOf argumentsOf
+count-alike s old m = record { original = refl; extended = words-01 _ (afterMpidr m) _ old refl (through-twice _ three (writePowerState old)) }
 
 pub two-formats : TwoFormats
 two-formats = record {

@@ -15,7 +15,7 @@ use Rattle.words.specs.declared.original_power_states.OriginalPowerState.{Origi
 use Rattle.function.specs.declared.Function.{Function}
 use Rattle.decode_definition.specs.Decode.{callOf}
 use Rattle.encode_definition.specs.Arguments.{argumentsOf}
-use Rattle.encode_definition.specs.Encode.{writtenOf}
+use Rattle.encode_definition.specs.Encode.{withNumber, inFour}
 use Rattle.original_calls.specs.OriginalFunctions.{functionOf, withState, originalIdOf}
 use Rattle.original_calls.specs.declared.original_function.OriginalFunction.{OriginalFunction}
 use Rattle.original_calls.specs.declared.original_function.OriginalFunction.the-variants.{CpuSuspend, StatResidency, StatCount, Other}
@@ -51,6 +51,10 @@ originalArgumentsOf (StatResidency mpidr state) = through (λ w. writeMpidr64 mp
 originalArgumentsOf (StatCount mpidr state) = through (λ w. writeMpidr64 mpidr ∷ w ∷ 0 ∷ []) (writeOriginalPowerState state)
 originalArgumentsOf (Other f) = argumentsOf (functionOf f)
 
--- refusal 17 first, then the number's 14, as document 01
-unfoldable pub originalEncodeOf : OriginalFunction → List ℕ → Answer (List ℕ)
-originalEncodeOf f run = writtenOf (originalIdOf f) (originalArgumentsOf f) run
+-- the four words; the number's refusal, 14, comes first, as in document 01
+unfoldable pub originalWordsOf : OriginalFunction → Answer (List ℕ)
+originalWordsOf f = withNumber (originalIdOf f) (originalArgumentsOf f)
+
+-- for a lent run, 17 before all others, as in document 01
+abbrev pub originalEncodeOf : OriginalFunction → List ℕ → Answer (List ℕ)
+originalEncodeOf f run = inFour (originalWordsOf f) run

@@ -27,10 +27,10 @@ use Rattle.function.specs.declared.Function.{Function}
 use Rattle.function.specs.declared.Function.the-variants as of01
 use Rattle.decode_definition.specs.RefusalOrders.{ofCoreState}
 use Rattle.decode_definition.specs.Decode.{callOf, decodeOf}
-use Rattle.encode_definition.specs.Encode.{writtenOf, encodeOf}
+use Rattle.encode_definition.specs.Encode.{withNumber, wordsOf}
 use Rattle.roundtrip.specs.Codec.{Registers}
 use Rattle.original_calls.specs.OriginalFunctions.{functionOf, withState, originalIdOf}
-use Rattle.original_calls.specs.OriginalCalls.{originalCallOf, originalDecodeOf, originalEncodeOf}
+use Rattle.original_calls.specs.OriginalCalls.{originalCallOf, originalDecodeOf, originalWordsOf}
 use Rattle.original_calls.specs.declared.original_function.StatelessFunction.{StatelessFunction}
 use Rattle.original_calls.specs.declared.original_function.OriginalFunction.{OriginalFunction}
 use Rattle.original_calls.specs.declared.original_function.OriginalFunction.the-variants.{CpuSuspend, StatResidency, StatCount, Other}
@@ -70,10 +70,10 @@ beforeEntry e word = word ∷ entryAddress e ∷ entryContext e ∷ []
 abbrev pub afterMpidr : Mpidr → ℕ → List ℕ
 afterMpidr m word = writeMpidr64 m ∷ word ∷ 0 ∷ []
 
--- a call of each format, with the power states s and old, is written so into any run
+-- a call of each format, with the power states s and old, has these words
 pub record Alike (number : FunctionId) (around : ℕ → List ℕ) (f : OriginalFunction) (s : OriginalPowerState) (g : Function) (old : PowerState) : Type 0 where
-  pub original : (run : List ℕ) → originalEncodeOf f run ≡ writtenOf (accepted number) (through around (writeOriginalPowerState s)) run
-  pub extended : (run : List ℕ) → encodeOf g run ≡ writtenOf (accepted number) (through around (writePowerState old)) run
+  pub original : originalWordsOf f ≡ withNumber (accepted number) (through around (writeOriginalPowerState s))
+  pub extended : wordsOf g ≡ withNumber (accepted number) (through around (writePowerState old))
 
 -- 4. Nothing else: a call in both types, or one refusal.
 pub record Same (here : Answer OriginalFunction) (there : Answer Function) : Type 0 where
@@ -102,4 +102,4 @@ pub record TwoFormats : Type 0 where
   pub decoded : (regs : List ℕ) → Registers regs → WithoutState (numberIn regs) → Same (originalDecodeOf regs) (decodeOf regs)
   -- and a call with such a number is one of the 19, and is encoded as by document 01
   pub other : (f : OriginalFunction) (n : FunctionId) → originalIdOf f ≡ accepted n → WithoutState (functionNumber n) → (g : StatelessFunction) × (f ≡ Other g)
-  pub encoded : (g : StatelessFunction) (run : List ℕ) → originalEncodeOf (Other g) run ≡ encodeOf (functionOf g) run
+  pub encoded : (g : StatelessFunction) → originalWordsOf (Other g) ≡ wordsOf (functionOf g)

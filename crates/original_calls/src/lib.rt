@@ -3,7 +3,7 @@
 ghost use mathlib.Core.List.{_∷_, []};
 ghost use mathlib.Core.Path.{_≡_};
 ghost use lib.ListN.{getD};
-ghost use Rattle.answers.specs.Lent.{left};
+ghost use Rattle.answers.specs.Lent.{Writes, itself};
 ghost use Rattle.words.specs.OriginalPowerStates.{readOriginalPowerState, originalPowerStateAnswer};
 ghost use Rattle.function.specs.Functions.{functionAnswer};
 ghost use Rattle.decode_definition.specs.Decode.{decodeOf};
@@ -95,7 +95,7 @@ pub fn decode_original(regs: [u64; 4]) -> OriginalFunctionResult
 // Writes the four words of a call. Refused in this order, and the run left as it was: a run not four numbers long with 17; a CPU on whose
 // MPIDR and entry differ in form with 14, or a level above 3 with 27, or a vendor type above 0x7fffffff with 31.
 pub fn encode_original(function: OriginalFunction, out: &mut [u64]) -> EncodeResult
-    ensures { λ r. ⌜ (encodeAnswer r (now (out .exit)) ≡ originalEncodeOf function (now (out .entry))) × (now (out .exit) ≡ left (originalEncodeOf function (now (out .entry))) (now (out .entry))) ⌝ }
+    ensures writes { λ r. ⌜ Writes itself (originalEncodeOf function (now (out .entry))) (now (out .entry)) (encodeAnswer r (now (out .exit))) (now (out .exit)) ⌝ }
 {
     match function {
         OriginalFunction::CpuSuspend { state, entry } => encode::write(
@@ -138,8 +138,8 @@ pub fn encode_original(function: OriginalFunction, out: &mut [u64]) -> EncodeRes
 // Decodes four registers and encodes the call into a lent run. A refusal leaves the run as it was; after success it decodes as the registers do.
 // Refused with decode's numbers, then with 17; 14, 27 and 31 can't come of a call that was decoded, by demand 3.
 pub fn recode_original(regs: [u64; 4], out: &mut [u64]) -> EncodeResult
-    ensures { λ r. ⌜ (encodeAnswer r (now (out .exit)) ≡ recodeOriginal regs (now (out .entry))) × (now (out .exit) ≡ left (recodeOriginal regs (now (out .entry))) (now (out .entry))) ⌝ }
-    ensures { λ r. ⌜ (r ≡ Written → originalDecodeOf (now (out .exit)) ≡ originalDecodeOf regs) ⌝ }
+    ensures writes { λ r. ⌜ Writes itself (recodeOriginal regs (now (out .entry))) (now (out .entry)) (encodeAnswer r (now (out .exit))) (now (out .exit)) ⌝ }
+    ensures read_again { λ r. ⌜ (r ≡ Written → originalDecodeOf (now (out .exit)) ≡ originalDecodeOf regs) ⌝ }
 {
     match decode_original(regs) {
         OriginalFunctionResult::Ok(function) => encode_original(function, out),

@@ -2,7 +2,7 @@
 // over as nine words.
 ghost use mathlib.Core.Path.{_≡_};
 ghost use Rattle.answers.specs.Answers.{through};
-ghost use Rattle.answers.specs.Lent.{left};
+ghost use Rattle.answers.specs.Lent.{Writes};
 ghost use Rattle.answers.specs.Told.{refusalIn};
 ghost use Rattle.original_calls.specs.OriginalCalls.{originalDecodeOf};
 ghost use Rattle.original_calls.specs.OriginalCodec.{recodeOriginal};
@@ -30,7 +30,7 @@ use original_calls::recode_original;
 // The nine words of the call that four registers make. Refused with decode's numbers, 1, 3 to 8 and 26; the lent words are then as they were.
 #[no_mangle]
 pub extern "C" fn psci_decode_original(regs: &[u64; 4], out: &mut [u64; 9]) -> Refusal
-    ensures { λ r. ⌜ (r ≡ refusalIn (originalDecodeOf (now (regs .entry)))) × (now (out .exit) ≡ left (through originalNineWords (originalDecodeOf (now (regs .entry)))) (now (out .entry))) ⌝ }
+    ensures writes { λ r. ⌜ Writes refusalIn (through originalNineWords (originalDecodeOf (now (regs .entry)))) (now (out .entry)) r (now (out .exit)) ⌝ }
 {
     let r = *regs;
     match decode_original(r) {
@@ -46,7 +46,7 @@ pub extern "C" fn psci_decode_original(regs: &[u64; 4], out: &mut [u64; 9]) -> R
 // or 31; the lent words are then as they were.
 #[no_mangle]
 pub extern "C" fn psci_encode_original(call: &[u64; 9], out: &mut [u64; 4]) -> Refusal
-    ensures { λ r. ⌜ (r ≡ refusalIn (encodeOriginalWords (now (call .entry)) (now (out .entry)))) × (now (out .exit) ≡ left (encodeOriginalWords (now (call .entry)) (now (out .entry))) (now (out .entry))) ⌝ }
+    ensures writes { λ r. ⌜ Writes refusalIn (encodeOriginalWords (now (call .entry)) (now (out .entry))) (now (out .entry)) r (now (out .exit)) ⌝ }
 {
     let c = *call;
     match original_asked(c) {
@@ -66,7 +66,7 @@ pub extern "C" fn psci_encode_original(call: &[u64; 9], out: &mut [u64; 4]) -> R
 // were.
 #[no_mangle]
 pub extern "C" fn psci_recode_original(regs: &[u64; 4], out: &mut [u64; 4]) -> Refusal
-    ensures { λ r. ⌜ (r ≡ refusalIn (recodeOriginal (now (regs .entry)) (now (out .entry)))) × (now (out .exit) ≡ left (recodeOriginal (now (regs .entry)) (now (out .entry))) (now (out .entry))) ⌝ }
+    ensures writes { λ r. ⌜ Writes refusalIn (recodeOriginal (now (regs .entry)) (now (out .entry))) (now (out .entry)) r (now (out .exit)) ⌝ }
 {
     let r = *regs;
     told_words(recode_original(r, out))

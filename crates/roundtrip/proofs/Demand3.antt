@@ -1,4 +1,4 @@
--- Demand 3 of any codec that decodes by the kept words and writes what it accepted as those words. Assumes nothing.
+-- Demand 3 of any codec with the one law. Assumes nothing.
 use mathlib.Core.Path.{_≡_, refl, sym, ap, _∙_}
 use mathlib.Core.Bool.{Bool, true, false, cond}
 use mathlib.Core.List.{List}
@@ -16,7 +16,7 @@ use Rattle.answers.specs.Lent.{left}
 use Rattle.answers.proofs.Answering.{same-accepted}
 use Rattle.answers.proofs.Lending.{fronted-all}
 use Rattle.function_ids.specs.CallTable.{Part, lowHalf, whole, partOf, Look, nothing, value, zeroOrNot, keep, numberIn, keptSet}
-use Rattle.roundtrip.specs.Codec.{Codec, Registers, bit, width, InField, AgreeIn, Agree, Inside, wordsIn, OfOne, OfTwo, Demand3}
+use Rattle.roundtrip.specs.Codec.{Codec, encodeBy, ByTable, Registers, bit, width, InField, AgreeIn, Agree, Inside, wordsIn, OfOne, OfTwo, Demand3}
 use Rattle.roundtrip.proofs.Bits.{bits-mod, mod-bits}
 
 -- ---- what is kept of a register
@@ -85,13 +85,6 @@ keep-clear (zeroOrNot part) x j h o =
 
 -- ---- the theorem
 
--- A codec by a table: decoding is a function of the kept words, and what it accepts is written as them.
-pub record ByTable (c : Codec) : Type 0 where
-  pub call : List ℕ → Answer (c .Call)
-  pub decodes : (r : List ℕ) → c .decode r ≡ call (keptSet (c .look) r)
-  pub writes : (r : List ℕ) (f : c .Call) (run : List ℕ) → Registers r → length run ≡ 4 → c .decode r ≡ accepted f →
-      c .encode f run ≡ accepted (keptSet (c .look) r)
-
 module _ (c : Codec) (by : ByTable c) where
   kept : List ℕ → List ℕ
   kept r = keptSet (c .look) r
@@ -112,6 +105,10 @@ module _ (c : Codec) (by : ByTable c) where
       let at : (i : ℕ) → 0 < i → i < 4 → keep (c .look (numberIn r) i) (getD r i 0) ≡ keep (c .look (numberIn r) i) (getD s i 0) =
       λ i p q. agree-keep (c .look (numberIn r) i) _ _ (h .fits i) (k .fits i) (a .fields i p q) in
       rw (at 1 (omega arith) (omega arith), at 2 (omega arith) (omega arith), at 3 (omega arith) (omega arith), a .number)
+
+  -- a set that agrees with another is read as that is: accepted as the same call, or refused alike
+  pub read-alike : (r s : List ℕ) → Registers r → Registers s → Agree c r s → c .decode s ≡ c .decode r
+  read-alike r s h k a = sym (reads s) ∙ ap (c .decode) (sym (agree-kept r s h k a)) ∙ reads r
 
   kept-agree : (r s : List ℕ) → kept r ≡ kept s → Agree c r s
   unfolding kept
@@ -135,10 +132,15 @@ module _ (c : Codec) (by : ByTable c) where
       three (suc (suc (suc (suc i)))) p q x y z = absurd (omega arith)
 
   module _ (r : List ℕ) (f : c .Call) (h : Registers r) (d : c .decode r ≡ accepted f) (run : List ℕ) (l : length run ≡ 4) where
-    -- the kept words are four, and so all that is left
+    -- the kept words are accepted for the run
+    in-run : encodeBy c f run ≡ accepted (kept r)
+    unfolding kept
+    in-run = simp (eq-eqb (length run) 4 l) (by .writes r f h d)
+
+    -- they are four, and so all that is left
     words-are : wordsIn c f run ≡ kept r
     unfolding kept
-    words-are = ap (λ (a : Answer (List ℕ)). left a run) (by .writes r f run h l d) ∙ fronted-all (keptSet (c .look) r) run (sym l)
+    words-are = ap (λ (a : Answer (List ℕ)). left a run) in-run ∙ fronted-all (keptSet (c .look) r) run (sym l)
 
   positive : {i : ℕ} → 0 < suc i
   positive = omega arith
@@ -157,7 +159,7 @@ module _ (c : Codec) (by : ByTable c) where
   of-one r f h d run l =
       let w : wordsIn c f run ≡ kept r = words-are r f h d run l in
       record {
-        written = by .writes r f run h l d ∙ ap accepted (sym w);
+        written = in-run r f h d run l ∙ ap accepted (sym w);
         again = ap (c .decode) w ∙ reads r ∙ d;
         clear = λ i j p o. ap (λ (x : List ℕ). bit j (getD x i 0)) w ∙ kept-clear r h i j p (λ q. o (rw w q));
       }
@@ -170,7 +172,7 @@ module _ (c : Codec) (by : ByTable c) where
       let v : wordsIn c g other ≡ kept s = words-are s g k e other m in
       let back : kept r ≡ kept s → f ≡ g = λ x. same-accepted (sym d ∙ sym (reads r) ∙ ap (c .decode) x ∙ reads s ∙ e) in
       let same : f ≡ g → kept r ≡ kept s =
-      λ x. same-accepted (sym (by .writes r f run h l d) ∙ ap (λ (y : c .Call). c .encode y run) x ∙ by .writes s g run k l e) in
+      λ x. same-accepted (sym (by .writes r f h d) ∙ ap (c .words) x ∙ by .writes s g k e) in
       record {
         agree = λ x. kept-agree r s (same x);
         equal = λ a. back (agree-kept r s h k a);

@@ -1,24 +1,22 @@
--- Demand 3 of document 01's codec and of Change 2's: what they accept is written as the kept words. Assumes nothing.
-use mathlib.Core.Path.{_≡_, refl, subst, _∙_}
+-- The law of document 01's codec and of Change 2's, that what they accept has the kept words for its words; and with it demand 3. Assumes nothing.
+use mathlib.Core.Path.{_≡_, refl, subst}
 use mathlib.Core.List.{List, [], _∷_}
 use Prim.Native.Nat.{ℕ, _^_, _<_}
 use native.Mathlib.Omega.{arith}
 use lib.Dec.{eqb}
-use lib.ListN.{length, getD}
-use borrow.Author.Tests.{eq-eqb}
+use lib.ListN.{getD}
 use Rattle.answers.specs.Answers.{Answer, accepted}
 use Rattle.answers.proofs.Answering.{came-then}
 use Rattle.function_ids.specs.FunctionIds.{functionNumber, readFunctionId}
 use Rattle.function_ids.specs.declared.FunctionId.{FunctionId}
 use Rattle.function_ids.proofs.FunctionIdLaws.{function-number}
-use Rattle.function_ids.specs.CallTable.{Part, lowHalf, whole, partOf, Look, nothing, value, zeroOrNot, ruleOf, lookOfNumber, keep, numberIn, keptSet, kept01, keptSmccc, valueIn}
+use Rattle.function_ids.specs.CallTable.{Part, lowHalf, whole, partOf, Look, nothing, value, zeroOrNot, ruleOf, lookOfNumber, keep, numberIn, keptSet, valueIn}
 use Rattle.function.specs.declared.Function.{Function}
 use Rattle.decode_definition.specs.Decode.{callOf, callIn, decodeBy, decodeOf, decodeSmccc}
-use Rattle.encode_definition.specs.Encode.{inFour, wordsOf, encodeOf}
-use Rattle.encode_definition.proofs.Laws.{in-four}
+use Rattle.encode_definition.specs.Encode.{wordsOf}
 use Rattle.roundtrip.specs.Codec.{Registers}
-use Rattle.roundtrip.specs.Document01.{document01, Demand3Of01}
-use Rattle.roundtrip.specs.Smccc.{smccc, Demand3OfSmccc}
+use Rattle.roundtrip.specs.Document01.{document01, ByTableOf01, Demand3Of01}
+use Rattle.roundtrip.specs.Smccc.{smccc, ByTableOfSmccc, Demand3OfSmccc}
 use Rattle.roundtrip.proofs.Demand3.{small, demand3}
 use Rattle.roundtrip.proofs.Rows.{WritesBackAs, FitsLook, row-law}
 
@@ -56,31 +54,16 @@ module _ (protect : Part) where
   writes : (r : List ℕ) (f : Function) → Registers r → decodeBy protect r ≡ accepted f → wordsOf f ≡ accepted (keptSet (lookOfNumber protect) r)
   writes r f h d = by-rows WritesBackAs (row-law protect) r f h d
 
-  written-by : (r : List ℕ) (f : Function) (run : List ℕ) → Registers r → length run ≡ 4 → decodeBy protect r ≡ accepted f →
-      encodeOf f run ≡ accepted (keptSet (lookOfNumber protect) r)
-  written-by r f run h l d =
-      let four : inFour (wordsOf f) run ≡ accepted (keptSet (lookOfNumber protect) r) = simp (eq-eqb (length run) 4 l) (writes r f h d) in in-four f run ∙ four
-
--- an accepted set's call is written as the kept words, into any lent run of four
-pub written : (r : List ℕ) (f : Function) (run : List ℕ) → Registers r → length run ≡ 4 → decodeOf r ≡ accepted f → encodeOf f run ≡ accepted (kept01 r)
-unfolding decodeOf
-written r f run h l d = written-by whole r f run h l d
-
-pub written-smccc : (r : List ℕ) (f : Function) (run : List ℕ) → Registers r → length run ≡ 4 → decodeSmccc r ≡ accepted f →
-    encodeOf f run ≡ accepted (keptSmccc r)
-unfolding decodeSmccc
-written-smccc r f run h l d = written-by lowHalf r f run h l d
-
-decodes : (r : List ℕ) → decodeOf r ≡ callIn (kept01 r)
+pub by-table-of-01 : ByTableOf01
 unfolding decodeOf decodeBy
-decodes r = refl
+by-table-of-01 = record { call = callIn; decodes = λ r. refl; writes = writes whole }
 
-decodes-smccc : (r : List ℕ) → decodeSmccc r ≡ callIn (keptSmccc r)
+pub by-table-of-smccc : ByTableOfSmccc
 unfolding decodeSmccc decodeBy
-decodes-smccc r = refl
+by-table-of-smccc = record { call = callIn; decodes = λ r. refl; writes = writes lowHalf }
 
 pub demand3-of-01 : Demand3Of01
-demand3-of-01 = demand3 document01 (record { call = callIn; decodes = decodes; writes = written })
+demand3-of-01 = demand3 document01 by-table-of-01
 
 pub demand3-of-smccc : Demand3OfSmccc
-demand3-of-smccc = demand3 smccc (record { call = callIn; decodes = decodes-smccc; writes = written-smccc })
+demand3-of-smccc = demand3 smccc by-table-of-smccc

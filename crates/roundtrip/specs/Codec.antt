@@ -1,25 +1,49 @@
--- Demand 3, about any codec, in the terms of document 01, "The four written words". It is stated here and proved in proofs/Demand3.antt, the law of
--- what is inside in proofs/InsideLaws.antt.
+-- A codec, what follows from it, the one law that it brings, and demand 3 about any codec, in the terms of document 01, "The four written words".
+-- Demand 3 is stated here and proved of any codec with that law in proofs/Demand3.antt, the law of what is inside in proofs/InsideLaws.antt.
 use mathlib.Core.Path.{_≡_}
 use mathlib.Core.List.{List}
 use mathlib.Core.Logic.{_⊎_}
 use Prim.Native.Nat.{ℕ, zero, suc, _/_, _%_, _^_, _<_}
 use lib.ListN.{length, getD}
-use Rattle.answers.specs.Answers.{Answer, accepted}
+use Rattle.answers.specs.Answers.{Answer, accepted, andThen}
 use Rattle.answers.specs.Lent.{left}
-use Rattle.function_ids.specs.CallTable.{Part, lowHalf, whole, partOf, Look, nothing, value, zeroOrNot, keep, numberIn}
+use Rattle.function_ids.specs.CallTable.{Part, lowHalf, whole, partOf, Look, nothing, value, zeroOrNot, keep, numberIn, keptSet}
+use Rattle.encode_definition.specs.Encode.{inFour}
 
--- A codec: its typed calls, what decoding gives for four registers, what encoding gives for a call and a lent run, and what is looked at
--- in register 1, 2 or 3 under a function number: its listed field there.
+-- A codec: its typed calls; what decoding gives for four registers; the four words of a call, or the refusal of a call that has none; and what is
+-- looked at in register 1, 2 or 3 under a function number: its listed field there.
 pub record Codec : Type 1 where
   pub Call : Type 0
   pub decode : List ℕ → Answer Call
-  pub encode : Call → List ℕ → Answer (List ℕ)
+  pub words : Call → Answer (List ℕ)
   pub look : ℕ → ℕ → Look
 
 -- registers of 64 bits
 pub record Registers (r : List ℕ) : Type 0 where
   pub fits : (i : ℕ) → getD r i 0 < 2 ^ 64
+
+-- ---- what follows from a codec's calls, decoding and words
+
+module _ (c : Codec) where
+  -- encoding: a call's words for a lent run, 17 first
+  abbrev pub encodeBy : c .Call → List ℕ → Answer (List ℕ)
+  encodeBy f run = inFour (c .words f) run
+
+  -- a set's call, in words again: decode's refusals first, then those of its words
+  abbrev pub rewordedBy : List ℕ → Answer (List ℕ)
+  rewordedBy regs = andThen (c .decode regs) (c .words)
+
+  -- recoding: the same for a lent run: decode's refusals first, then encode's
+  abbrev pub recodeBy : List ℕ → List ℕ → Answer (List ℕ)
+  recodeBy regs run = andThen (c .decode regs) (λ f. encodeBy f run)
+
+  -- The one law that a codec brings: it decodes by what is kept of a set, and what it accepts has just that for its words.
+  pub record ByTable : Type 0 where
+    pub call : List ℕ → Answer (c .Call)
+    pub decodes : (r : List ℕ) → c .decode r ≡ call (keptSet (c .look) r)
+    pub writes : (r : List ℕ) (f : c .Call) → Registers r → c .decode r ≡ accepted f → c .words f ≡ accepted (keptSet (c .look) r)
+
+-- ---- demand 3, and its terms
 
 -- bit j of a word
 abbrev pub bit : ℕ → ℕ → ℕ
@@ -65,12 +89,12 @@ module _ (c : Codec) where
 
   -- a call's four words: what encoding leaves in a lent run of four numbers
   abbrev pub wordsIn : c .Call → List ℕ → List ℕ
-  wordsIn f run = left (c .encode f run) run
+  wordsIn f run = left (encodeBy c f run) run
 
   -- of the call f of an accepted set, and any lent run of four numbers
   pub record OfOne (f : c .Call) (run : List ℕ) : Type 0 where
     -- encoding does not refuse the call
-    pub written : c .encode f run ≡ accepted (wordsIn f run)
+    pub written : encodeBy c f run ≡ accepted (wordsIn f run)
     -- its four words are accepted, and decode to that same call
     pub again : c .decode (wordsIn f run) ≡ accepted f
     -- they are zero outside

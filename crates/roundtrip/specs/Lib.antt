@@ -1,6 +1,5 @@
 pub mod Cases
 pub mod Codec
 pub mod Document01
-pub mod Recode
 pub mod Smccc
 pub mod SmcccCases

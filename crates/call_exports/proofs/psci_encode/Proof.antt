@@ -10,18 +10,18 @@ use Rattle.call_exports.proofs.psci_encode.Tie as tie
 
 returns : tie.Need-returns
 returns c =
-    told-asked (callAsked (c .before .before .before .before .before .before .before .before .args .call .now)) encodeOf (c .before .before .before .before .before .before .before .before .args .out .now) _ (c .before .encode .result) _
+    told-asked callAsked encodeOf (c .before .before .before .before .before .before .before .before .args .call .now) (c .before .before .before .before .before .before .before .before .args .out .now) _ (c .before .encode .result) _
     (sym (c .before .before .before .before .before .before .call-asked .ensures) ∙ ap askedAnswer (c .before .before .before .before .function .given .1))
     (c .before .encode .ensures) (c .told-words .ensures)
 
 returns-2 : tie.Need-returns-2
 returns-2 c =
-    told-unasked (callAsked (c .before .before .before .before .before .args .call .now)) encodeOf (c .before .before .before .before .before .args .out .now)
+    told-unasked callAsked encodeOf (c .before .before .before .before .before .args .call .now) (c .before .before .before .before .before .args .out .now)
     (sym (c .before .before .before .call-asked .ensures) ∙ ap askedAnswer (c .before .tag .given .1))
 
 returns-3 : tie.Need-returns-3
 returns-3 c =
-    told-unasked (callAsked (c .before .before .before .before .args .call .now)) encodeOf (c .before .before .before .before .args .out .now)
+    told-unasked callAsked encodeOf (c .before .before .before .before .args .call .now) (c .before .before .before .before .args .out .now)
     (sym (c .before .before .call-asked .ensures) ∙ ap askedAnswer (c .enum-told .given .1))
 
 pub psci-encode-spec : {M : Type 1} → statement M

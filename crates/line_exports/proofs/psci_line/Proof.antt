@@ -7,16 +7,10 @@ use Rattle.line_exports.proofs.psci_line.Statement.{statement}
 use Rattle.line_exports.proofs.psci_line.Tie as tie
 
 returns : tie.Need-returns
-returns c =
-    told (c .before .before .before .before .before .before .args .number) (c .before .before .before .before .before .before .args .regs .now) (c .before .before .before .before .before .before .args .out .now)
-    (c .before .before .before .line .result) _ _
-    (c .before .before .before .line .ensures) (c .before .size .given .1) refl
+returns c = told (c .before .before .before .line .result) _ (c .before .before .before .line .ensures) (c .before .size .given .1) refl
 
 returns-2 : tie.Need-returns-2
-returns-2 c =
-    told (c .before .before .before .before .before .before .before .args .number) (c .before .before .before .before .before .before .before .args .regs .now) (c .before .before .before .before .before .before .before .args .out .now)
-    (c .before .before .before .before .line .result) _ _
-    (c .before .before .before .before .line .ensures) (c .before .before .error .given .1) (c .refused-line .ensures)
+returns-2 c = told (c .before .before .before .before .line .result) _ (c .before .before .before .before .line .ensures) (c .before .before .error .given .1) (c .refused-line .ensures)
 
 pub psci-line-spec : {M : Type 1} → statement M
 psci-line-spec =

@@ -9,7 +9,7 @@ use borrow.Author.Needs.{needs}
 use Rattle.roundtrip.proofs.Recoding.{encoded, not-decoded, read-again}
 use Rattle.original_calls.specs.OriginalFunctions.{originalAnswer}
 use Rattle.original_calls.specs.OriginalCodec.{original}
-use Rattle.original_calls.proofs.Original.{demand3-of-original, four-of-original}
+use Rattle.original_calls.proofs.Original.{demand3-of-original}
 use Rattle.original_calls.proofs.recode_original.Statement.{statement}
 use Rattle.original_calls.proofs.recode_original.Tie as tie
 
@@ -19,7 +19,7 @@ returns c =
     let fits : (i : ℕ) → Fits w64 (getD regs i 0) = λ i. search needs in
     let decoded = sym (c .before .before .before .before .before .before .before .decode-original .ensures) ∙ ap originalAnswer (c .before .before .before .before .before .function .given .1) in
     let told = encoded original regs _ _ (c .before .before .encode-original .result) _ decoded (c .before .before .encode-original .ensures) in
-    (told, (λ ok. read-again original regs _ demand3-of-original (four-of-original _) (c .before .before .encode-original .result) _ (record { fits = λ i. fits i .fits }) (told .0) ok))
+    (told, (λ ok. read-again original regs _ demand3-of-original (c .before .before .encode-original .result) _ (record { fits = λ i. fits i .fits }) told ok))
 
 returns-2 : tie.Need-returns-2
 returns-2 c = (

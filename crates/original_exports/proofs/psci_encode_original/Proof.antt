@@ -9,18 +9,18 @@ use Rattle.original_exports.proofs.psci_encode_original.Tie as tie
 
 returns : tie.Need-returns
 returns c =
-    told-asked (originalAsked (c .before .before .before .before .before .before .before .before .args .call .now)) originalEncodeOf (c .before .before .before .before .before .before .before .before .args .out .now) _ (c .before .encode-original .result) _
+    told-asked originalAsked originalEncodeOf (c .before .before .before .before .before .before .before .before .args .call .now) (c .before .before .before .before .before .before .before .before .args .out .now) _ (c .before .encode-original .result) _
     (sym (c .before .before .before .before .before .before .original-asked .ensures) ∙ ap originalAskedAnswer (c .before .before .before .before .function .given .1))
     (c .before .encode-original .ensures) (c .told-words .ensures)
 
 returns-2 : tie.Need-returns-2
 returns-2 c =
-    told-unasked (originalAsked (c .before .before .before .before .before .args .call .now)) originalEncodeOf (c .before .before .before .before .before .args .out .now)
+    told-unasked originalAsked originalEncodeOf (c .before .before .before .before .before .args .call .now) (c .before .before .before .before .before .args .out .now)
     (sym (c .before .before .before .original-asked .ensures) ∙ ap originalAskedAnswer (c .before .tag .given .1))
 
 returns-3 : tie.Need-returns-3
 returns-3 c =
-    told-unasked (originalAsked (c .before .before .before .before .args .call .now)) originalEncodeOf (c .before .before .before .before .args .out .now)
+    told-unasked originalAsked originalEncodeOf (c .before .before .before .before .args .call .now) (c .before .before .before .before .args .out .now)
     (sym (c .before .before .original-asked .ensures) ∙ ap originalAskedAnswer (c .enum-told .given .1))
 
 pub psci-encode-original-spec : {M : Type 1} → statement M

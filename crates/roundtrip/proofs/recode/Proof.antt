@@ -10,7 +10,7 @@ use borrow.Author.Needs.{needs}
 use Rattle.function.specs.Functions.{functionAnswer}
 use Rattle.roundtrip.specs.Document01.{document01}
 use Rattle.roundtrip.proofs.TwoCodecs.{demand3-of-01}
-use Rattle.roundtrip.proofs.Recoding.{encoded, not-decoded, read-again, four-of-01}
+use Rattle.roundtrip.proofs.Recoding.{encoded, not-decoded, read-again}
 use Rattle.roundtrip.proofs.recode.Statement.{statement}
 use Rattle.roundtrip.proofs.recode.Tie as tie
 
@@ -20,7 +20,7 @@ returns c =
     let fits : (i : ℕ) → Fits w64 (getD regs i 0) = λ i. search needs in
     let decoded = sym (c .before .before .before .before .before .before .before .decode .ensures) ∙ ap functionAnswer (c .before .before .before .before .before .function .given .1) in
     let told = encoded document01 regs _ _ (c .before .before .encode .result) _ decoded (c .before .before .encode .ensures) in
-    (told, (λ ok. read-again document01 regs _ demand3-of-01 (four-of-01 _) (c .before .before .encode .result) _ (record { fits = λ i. fits i .fits }) (told .0) ok))
+    (told, (λ ok. read-again document01 regs _ demand3-of-01 (c .before .before .encode .result) _ (record { fits = λ i. fits i .fits }) told ok))
 
 returns-2 : tie.Need-returns-2
 returns-2 c = (
