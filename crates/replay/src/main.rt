@@ -22,6 +22,7 @@ use call_log::big_endian::byte_at;
 use call_log::big_endian::word_at;
 use compared::agrees;
 use input::read_all;
+use records::Record;
 use shown::new_line;
 use shown::show_case;
 use shown::show_label;
@@ -39,25 +40,25 @@ struct Tally {
     failed: bool,
 }
 
-fn words_of(bytes: &[u8]) -> [u64; 16] {
-    [
-        word_at(bytes, 0),
-        word_at(bytes, 1),
-        word_at(bytes, 2),
-        word_at(bytes, 3),
-        word_at(bytes, 4),
-        word_at(bytes, 5),
-        word_at(bytes, 6),
-        word_at(bytes, 7),
-        word_at(bytes, 8),
-        word_at(bytes, 9),
-        word_at(bytes, 10),
-        word_at(bytes, 11),
-        word_at(bytes, 12),
-        word_at(bytes, 13),
-        word_at(bytes, 14),
-        word_at(bytes, 15),
-    ]
+fn record_of(bytes: &[u8]) -> Record {
+    Record {
+        operation: word_at(bytes, 0),
+        tag: word_at(bytes, 1),
+        p1: word_at(bytes, 2),
+        p2: word_at(bytes, 3),
+        p3: word_at(bytes, 4),
+        p4: word_at(bytes, 5),
+        p5: word_at(bytes, 6),
+        p6: word_at(bytes, 7),
+        p7: word_at(bytes, 8),
+        p8: word_at(bytes, 9),
+        r0: word_at(bytes, 10),
+        r1: word_at(bytes, 11),
+        r2: word_at(bytes, 12),
+        r3: word_at(bytes, 13),
+        number: word_at(bytes, 14),
+        carried: word_at(bytes, 15),
+    }
 }
 
 fn counted(mut t: Tally, same: bool) -> Tally {
@@ -71,7 +72,7 @@ fn counted(mut t: Tally, same: bool) -> Tally {
 fn block(mut t: Tally, bytes: &[u8]) -> Tally {
     if t.labelled {
         t.labelled = false;
-        show_case(words_of(bytes));
+        show_case(record_of(bytes));
         return t;
     }
     let first = byte_at(bytes, 0);
@@ -80,7 +81,7 @@ fn block(mut t: Tally, bytes: &[u8]) -> Tally {
         show_label(bytes);
         return t;
     }
-    counted(t, agrees(words_of(bytes)))
+    counted(t, agrees(record_of(bytes)))
 }
 
 fn blocks(mut t: Tally, bytes: &[u8]) -> Tally {

@@ -96,9 +96,9 @@ pub(crate) const WRITE_POWER_STATE_ORIGINAL: u64 = 66;
 // Many words to one reader or decoder.
 pub(crate) const SWEEP: u64 = 2000;
 
-// Operations that only a labelled record has: a heading, which is a label alone; a call written to a lent run, whose length is word 15, by
-// document 01 or with an original power state; and, each by the function that is exported to C, the three recodes of four registers and the line of a
-// record, whose number is word 1.
+// Operations that only a labelled record has: a heading, which is a label alone; a call written to a lent run, whose length is what the record carries,
+// by document 01 or with an original power state; and, each by the function that is exported to C, the three recodes of four registers and the line of
+// a record, whose number stands for the tag.
 pub(crate) const HEADING: u64 = 3000;
 
 pub(crate) const LENT: u64 = 3001;

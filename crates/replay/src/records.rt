@@ -1,5 +1,5 @@
-// A record is sixteen words: the operation, a call or a single value as nine words, four registers, a refusal's number and what it carries.
-// An answer changes only what it gives; every other word stays as it was asked.
+// A record: the operation, a call or a single value as nine words, four registers, a refusal's number and what it carries. An answer changes only what
+// it gives; every other word stays as it was asked.
 use crate::op;
 use answers::Error;
 use answers::WordResult;
@@ -8,8 +8,28 @@ use call_exports::call_asked::WRONG_PART;
 use call_exports::parts::wide32;
 use call_exports::same_words::differing_bits;
 
-// The refusal of a record whose operation there is not, beside those of call_exports and the papers'; the operation is carried.
-pub(crate) const UNKNOWN_OPERATION: u64 = 1001;
+// A field for each word, and no array: the check of a function that reads elements of an array takes longer, with each of them.
+pub(crate) struct Record {
+    pub(crate) operation: u64,
+    pub(crate) tag: u64,
+    pub(crate) p1: u64,
+    pub(crate) p2: u64,
+    pub(crate) p3: u64,
+    pub(crate) p4: u64,
+    pub(crate) p5: u64,
+    pub(crate) p6: u64,
+    pub(crate) p7: u64,
+    pub(crate) p8: u64,
+    pub(crate) r0: u64,
+    pub(crate) r1: u64,
+    pub(crate) r2: u64,
+    pub(crate) r3: u64,
+    pub(crate) number: u64,
+    pub(crate) carried: u64,
+}
+
+// The refusal of a record whose operation there is not, beside those of call_exports and the papers'.
+const UNKNOWN_OPERATION: u64 = 1001;
 
 // Whether the answer to an operation is registers: encode writes four, a function number or a single word one. The decoders and the readers
 // give nine words.
@@ -28,83 +48,99 @@ pub(crate) fn is_encode(operation: u64) -> bool {
 // Turned in a word that an answer must write, so that it cannot be right by chance.
 pub(crate) const WRONG: u64 = 0xa5a5_5a5a_c3c3_3c3c;
 
-pub(crate) fn nine_in(w: [u64; 16]) -> [u64; 9] {
-    [w[1], w[2], w[3], w[4], w[5], w[6], w[7], w[8], w[9]]
+pub(crate) fn nine_in(q: Record) -> [u64; 9] {
+    [q.tag, q.p1, q.p2, q.p3, q.p4, q.p5, q.p6, q.p7, q.p8]
 }
 
-pub(crate) fn regs_in(w: [u64; 16]) -> [u64; 4] {
-    [w[10], w[11], w[12], w[13]]
+pub(crate) fn regs_in(q: Record) -> [u64; 4] {
+    [q.r0, q.r1, q.r2, q.r3]
 }
 
-pub(crate) fn turned_back(w: [u64; 16], number: u64, carried: u64) -> [u64; 16] {
-    let mut answer = w;
-    answer[14] = number;
-    answer[15] = carried;
-    answer
-}
-
-pub(crate) fn refused(w: [u64; 16], error: Error) -> [u64; 16] {
-    turned_back(w, error.number(), error.value())
-}
-
-// A record of its parts.
-fn made(op: u64, c: [u64; 9], regs: [u64; 4], number: u64, carried: u64) -> [u64; 16] {
-    [
-        op,
-        c[0],
-        c[1],
-        c[2],
-        c[3],
-        c[4],
-        c[5],
-        c[6],
-        c[7],
-        c[8],
-        regs[0],
-        regs[1],
-        regs[2],
-        regs[3],
-        number,
-        carried,
-    ]
-}
-
-// What an exported function told, also of a success, and what it was lent, as it is afterwards.
-pub(crate) fn told_record(w: [u64; 16], c: [u64; 9], regs: [u64; 4], told: Refusal) -> [u64; 16] {
-    made(w[0], c, regs, told.number, told.carried)
-}
-
-// Accepted, with nine words for the answer.
-pub(crate) fn given(w: [u64; 16], c: [u64; 9]) -> [u64; 16] {
-    made(w[0], c, regs_in(w), 0, 0)
-}
-
-// Accepted, with one word for the answer.
-pub(crate) fn written_word(w: [u64; 16], word: u64) -> [u64; 16] {
-    let mut answer = turned_back(w, 0, 0);
-    answer[10] = word;
-    answer
-}
-
-// The word of a value, if the record holds the value's own words.
-pub(crate) fn word_given(w: [u64; 16], own: [u64; 9], word: u64) -> [u64; 16] {
-    if differing_bits(nine_in(w), own) == 0 {
-        written_word(w, word)
-    } else {
-        turned_back(w, WRONG_PART, 0)
+pub(crate) fn with_nine(q: Record, c: [u64; 9]) -> Record {
+    Record {
+        operation: q.operation,
+        tag: c[0],
+        p1: c[1],
+        p2: c[2],
+        p3: c[3],
+        p4: c[4],
+        p5: c[5],
+        p6: c[6],
+        p7: c[7],
+        p8: c[8],
+        r0: q.r0,
+        r1: q.r1,
+        r2: q.r2,
+        r3: q.r3,
+        number: q.number,
+        carried: q.carried,
     }
 }
 
+pub(crate) fn with_regs(q: Record, regs: [u64; 4]) -> Record {
+    let mut answer = q;
+    answer.r0 = regs[0];
+    answer.r1 = regs[1];
+    answer.r2 = regs[2];
+    answer.r3 = regs[3];
+    answer
+}
+
+pub(crate) fn with_word(q: Record, word: u64) -> Record {
+    let mut answer = q;
+    answer.r0 = word;
+    answer
+}
+
+pub(crate) fn turned_back(q: Record, number: u64, carried: u64) -> Record {
+    let mut answer = q;
+    answer.number = number;
+    answer.carried = carried;
+    answer
+}
+
+// Refused, and the operation carried.
+pub(crate) fn unknown_operation(q: Record) -> Record {
+    turned_back(q, UNKNOWN_OPERATION, q.operation)
+}
+
+pub(crate) fn refused(q: Record, error: Error) -> Record {
+    turned_back(q, error.number(), error.value())
+}
+
+// What an exported function told, also of a success.
+pub(crate) fn told_record(q: Record, told: Refusal) -> Record {
+    turned_back(q, told.number, told.carried)
+}
+
+// Accepted, with nine words for the answer.
+pub(crate) fn given(q: Record, c: [u64; 9]) -> Record {
+    with_nine(turned_back(q, 0, 0), c)
+}
+
+// Accepted, with one word for the answer.
+pub(crate) fn written_word(q: Record, word: u64) -> Record {
+    with_word(turned_back(q, 0, 0), word)
+}
+
+// The answer, if the record holds the value's own words.
+fn of_own(q: Record, own: [u64; 9], answer: Record) -> Record {
+    if differing_bits(nine_in(q), own) == 0 {
+        answer
+    } else {
+        turned_back(q, WRONG_PART, 0)
+    }
+}
+
+// The word of a value, if the record holds the value's own words.
+pub(crate) fn word_given(q: Record, own: [u64; 9], word: u64) -> Record {
+    of_own(q, own, written_word(q, word))
+}
+
 // The same where writing may refuse.
-pub(crate) fn word_answer(w: [u64; 16], own: [u64; 9], word: WordResult) -> [u64; 16] {
+pub(crate) fn word_answer(q: Record, own: [u64; 9], word: WordResult) -> Record {
     match word {
-        WordResult::Ok(word) => word_given(w, own, wide32(word)),
-        WordResult::Err(error) => {
-            if differing_bits(nine_in(w), own) == 0 {
-                refused(w, error)
-            } else {
-                turned_back(w, WRONG_PART, 0)
-            }
-        }
+        WordResult::Ok(word) => word_given(q, own, wide32(word)),
+        WordResult::Err(error) => of_own(q, own, refused(q, error)),
     }
 }

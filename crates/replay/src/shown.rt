@@ -1,10 +1,12 @@
 // Labelled cases: a line for each, with its label and what the codec answers.
 use crate::op;
 use crate::operations::answer;
+use crate::records::Record;
 use crate::records::is_to_registers;
 use crate::records::nine_in;
 use crate::records::regs_in;
 use crate::records::told_record;
+use crate::records::with_regs;
 use answers::told::Refusal;
 use call_exports::call_asked::Asked;
 use call_exports::call_asked::UNKNOWN_TAG;
@@ -12,10 +14,11 @@ use call_exports::call_asked::WRONG_PART;
 use call_exports::call_asked::call_asked;
 use call_exports::psci_recode;
 use call_exports::psci_recode_smccc;
+use call_exports::told_words;
 use call_log::big_endian::byte_at;
-use encode::EncodeResult;
 use line_exports::Written;
 use line_exports::psci_line;
+use original_calls::encode_original;
 use original_exports::original_asked::OriginalAsked;
 use original_exports::original_asked::original_asked;
 use original_exports::psci_recode_original;
@@ -38,67 +41,84 @@ fn show_refusal(number: u64, value: u64) {
     io::print_hex(1, value, 1);
 }
 
-// The words of a record from one index up to another.
-fn show_words(w: [u64; 16], from: usize, to: usize) {
-    let mut i = from;
-    while i < to {
-        if i < 16 {
-            space();
-            io::print_hex(1, w[i], 1);
-        }
+fn show_words(words: &[u64]) {
+    let mut i = 0;
+    while i < words.len() {
+        space();
+        io::print_hex(1, words[i], 1);
         i += 1;
     }
 }
 
-// The answer to a record: the decoders and the readers give nine words, all others write registers. A word that was not written is as it was asked.
 // Accepted is told as twice 0: a success that carried something would be shown as a refusal.
-fn show_answer(w: [u64; 16]) {
-    if w[14] | w[15] == 0 {
+fn show_told(number: u64, carried: u64) {
+    if number | carried == 0 {
         io::write_all(1, b": accepted");
     } else {
-        show_refusal(w[14], w[15]);
+        show_refusal(number, carried);
     }
-    if is_to_registers(w[0]) {
-        show_words(w, 10, 14);
+}
+
+// The answer to a record: the decoders and the readers give nine words, all others write registers. A word that was not written is as it was asked.
+fn show_answer(q: Record) {
+    show_told(q.number, q.carried);
+    if is_to_registers(q.operation) {
+        show_words(&regs_in(q));
     } else {
-        show_words(w, 1, 10);
+        show_words(&nine_in(q));
     }
 }
 
-fn show_encoded(encoded: EncodeResult) {
-    match encoded {
-        EncodeResult::Ok => {
-            io::write_all(1, b": accepted");
-        }
-        EncodeResult::Err(error) => show_refusal(error.number(), error.value()),
+// A call written to a lent run, and what is told of it.
+fn encoded(call: [u64; 9], out: &mut [u64]) -> Refusal {
+    match call_asked(call) {
+        Asked::Call(function) => told_words(encode::encode(function, out)),
+        Asked::UnknownTag(tag) => Refusal {
+            number: UNKNOWN_TAG,
+            carried: tag,
+        },
+        Asked::WrongPart => Refusal {
+            number: WRONG_PART,
+            carried: 0,
+        },
     }
-}
-
-// A call written to the first numbers of five.
-fn show_lent(w: [u64; 16]) {
-    let mut run = [PATTERN; 16];
-    let length = (w[15] % 6) as usize;
-    match call_asked(nine_in(w)) {
-        Asked::Call(function) => show_encoded(encode::encode(function, &mut run[..length])),
-        Asked::UnknownTag(tag) => show_refusal(UNKNOWN_TAG, tag),
-        Asked::WrongPart => show_refusal(WRONG_PART, 0),
-    }
-    show_words(run, 0, 5);
 }
 
 // The same with an original power state.
-fn show_lent_original(w: [u64; 16]) {
-    let mut run = [PATTERN; 16];
-    let length = (w[15] % 6) as usize;
-    match original_asked(nine_in(w)) {
-        OriginalAsked::Call(function) => show_encoded(original_calls::encode_original(
-            function,
-            &mut run[..length],
-        )),
-        OriginalAsked::UnknownTag(tag) => show_refusal(UNKNOWN_TAG, tag),
-        OriginalAsked::WrongPart => show_refusal(WRONG_PART, 0),
+fn encoded_original(call: [u64; 9], out: &mut [u64]) -> Refusal {
+    match original_asked(call) {
+        OriginalAsked::Call(function) => told_words(encode_original(function, out)),
+        OriginalAsked::UnknownTag(tag) => Refusal {
+            number: UNKNOWN_TAG,
+            carried: tag,
+        },
+        OriginalAsked::WrongPart => Refusal {
+            number: WRONG_PART,
+            carried: 0,
+        },
     }
-    show_words(run, 0, 5);
+}
+
+fn lent(q: Record, out: &mut [u64]) -> Refusal {
+    if q.operation == op::LENT {
+        encoded(nine_in(q), out)
+    } else {
+        encoded_original(nine_in(q), out)
+    }
+}
+
+// What is told of a call, and all numbers of a run of which some were lent.
+fn show_run(told: Refusal, run: [u64; 5]) {
+    show_told(told.number, told.carried);
+    show_words(&run);
+}
+
+// A call written to the first numbers of five.
+fn show_lent(q: Record) {
+    let mut run = [PATTERN; 5];
+    let length = (q.carried % 6) as usize;
+    let told = lent(q, &mut run[..length]);
+    show_run(told, run);
 }
 
 fn recoded(operation: u64, regs: [u64; 4], out: &mut [u64; 4]) -> Refusal {
@@ -109,11 +129,11 @@ fn recoded(operation: u64, regs: [u64; 4], out: &mut [u64; 4]) -> Refusal {
     }
 }
 
-fn show_recoded(w: [u64; 16]) {
-    let regs = regs_in(w);
+fn show_recoded(q: Record) {
+    let regs = regs_in(q);
     let mut out = [PATTERN; 4];
-    let told = recoded(w[0], regs, &mut out);
-    show_answer(told_record(w, nine_in(w), out, told));
+    let told = recoded(q.operation, regs, &mut out);
+    show_answer(with_regs(told_record(q, told), out));
 }
 
 // What is told of a line, and below it all lent bytes.
@@ -128,22 +148,22 @@ fn show_written(told: Written, lent: &[u8; 80]) {
     io::write_all(1, lent);
 }
 
-fn show_line(w: [u64; 16]) {
-    let number = w[1] as usize;
-    let regs = regs_in(w);
+fn show_line(q: Record) {
+    let number = q.tag as usize;
+    let regs = regs_in(q);
     let mut out = [b'.'; 80];
     let told = psci_line(number, &regs, &mut out);
     show_written(told, &out);
 }
 
-pub(crate) fn show_case(w: [u64; 16]) {
-    match w[0] {
+pub(crate) fn show_case(q: Record) {
+    let operation = q.operation;
+    match operation {
         op::HEADING => {}
-        op::LENT => show_lent(w),
-        op::LENT_ORIGINAL => show_lent_original(w),
-        op::RECODE | op::RECODE_SMCCC | op::RECODE_ORIGINAL => show_recoded(w),
-        op::LINE => show_line(w),
-        _ => show_answer(answer(w)),
+        op::LENT | op::LENT_ORIGINAL => show_lent(q),
+        op::RECODE | op::RECODE_SMCCC | op::RECODE_ORIGINAL => show_recoded(q),
+        op::LINE => show_line(q),
+        _ => show_answer(answer(q)),
     }
     new_line();
 }

@@ -174,26 +174,27 @@ pub(crate) fn original_power_state_in(down: u64, id: u64, level: u64) -> Origina
 
 // A number that no refusal has stands for 14, whose words are others.
 pub(crate) fn error_in(number: u64, value: u64) -> Error {
+    let word = low32(value);
     match number {
-        1 => Error::UnrecognisedFunctionId(low32(value)),
-        2 => Error::InvalidPowerState(low32(value)),
-        3 => Error::InvalidMpidr32(low32(value)),
+        1 => Error::UnrecognisedFunctionId(word),
+        2 => Error::InvalidPowerState(word),
+        3 => Error::InvalidMpidr32(word),
         4 => Error::InvalidMpidr64(value),
-        5 => Error::InvalidLowerAffinityLevel(low32(value)),
-        6 => Error::UnrecognisedSystemOff2Type(low32(value)),
-        7 => Error::UnrecognisedSystemReset2Type(low32(value)),
-        8 => Error::UnrecognisedSuspendMode(low32(value)),
-        9 => Error::UnrecognisedErrorCode(signs::signed_32(low32(value))),
+        5 => Error::InvalidLowerAffinityLevel(word),
+        6 => Error::UnrecognisedSystemOff2Type(word),
+        7 => Error::UnrecognisedSystemReset2Type(word),
+        8 => Error::UnrecognisedSuspendMode(word),
+        9 => Error::UnrecognisedErrorCode(signs::signed_32(word)),
         10 => Error::OverflowingErrorCode(signs::signed_64(value)),
-        11 => Error::InvalidVersion(low32(value)),
-        12 => Error::UnrecognisedHwState(low32(value)),
+        11 => Error::InvalidVersion(word),
+        12 => Error::UnrecognisedHwState(word),
         13 => Error::IgnoredNonZeroAff3(low8(value)),
-        15 => Error::InvalidStateId(low32(value)),
+        15 => Error::InvalidStateId(word),
         16 => Error::InvalidMajorVersion(low16(value)),
         17 => Error::WrongLength(value as usize),
-        26 => Error::InvalidOriginalPowerState(low32(value)),
+        26 => Error::InvalidOriginalPowerState(word),
         27 => Error::InvalidPowerLevel(low8(value)),
-        31 => Error::InvalidVendorType(low32(value)),
+        31 => Error::InvalidVendorType(word),
         _ => Error::MixedCallForms,
     }
 }

@@ -1,14 +1,15 @@
 -- `replay::shown::show_words` is safe and ends: the measure is what is left of the words. Assumes nothing.
 use Prim.Native.Nat.{_-_}
 use native.Mathlib.Omega.{arith}
+use lib.ListN.{length}
 use Rattle.replay.proofs.shown.show_words.Statement.{statement}
 use Rattle.replay.proofs.shown.show_words.Tie as tie
 
 abbrev Inv-loop : tie.InvT-loop
-Inv-loop from to w i₀ i = Unit {0}
+Inv-loop words i₀ i = Unit {0}
 
 abbrev μ-loop : tie.MeasureT-loop
-μ-loop from to w i₀ i = to - i
+μ-loop words i₀ i = length words - i
 
 pub show-words-spec : {M : Type 1} → statement M
 show-words-spec =

@@ -1,7 +1,6 @@
--- `replay::sweeps::digest` is safe and ends: the measure is the number of questions left. Assumes nothing.
+-- `replay::sweeps::digest` is safe and ends: the measure is what is left of the count. Assumes nothing.
 use Prim.Native.Nat.{_-_}
 use native.Mathlib.Omega.{arith}
-use borrow.Author.Needs.{needs}
 use Rattle.replay.proofs.sweeps.digest.Statement.{statement}
 use Rattle.replay.proofs.sweeps.digest.Tie as tie
 
@@ -17,15 +16,12 @@ digest-spec =
     (tie.spec
     Inv-loop
     μ-loop
-    (λ c. search needs)
-    (λ c. search needs)
-    (λ c κs. search needs)
-    (λ c. search needs)
-    (λ c κs. search needs)
-    (λ c. search needs)
-    (λ c κs. search needs)
-    (λ c κs. search needs)
-    (λ c. search needs)
+    (λ c κs. tt)
+    (λ c. tt)
+    (λ c κs. tt)
+    (λ c κs. tt)
+    (λ c κs. tt)
     (λ c. omega arith)
-    (λ c. search needs)
-    (λ c. search needs))
+    (λ c. omega arith)
+    (λ c. tt)
+    (λ c. tt))
