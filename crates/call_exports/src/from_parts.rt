@@ -4,6 +4,7 @@ ghost use Rattle.call_exports.specs.LowBits.{low, byte};
 ghost use Rattle.call_exports.specs.FromParts.{either, mpidrIn, powerStateIn, entryIn, cookieIn, rangeIn, resetTypeIn, featureIn, modeIn};
 use crate::low_bits::low8;
 use crate::low_bits::low32;
+use function_ids::FunctionId;
 use words::Aff3;
 use words::ArchitecturalResetType;
 use words::Cookie;
@@ -12,7 +13,6 @@ use words::MemProtectRange;
 use words::Mpidr;
 use words::PowerState;
 use words::PsciFeature;
-use words::PsciFeatureResult;
 use words::ResetType;
 use words::SuspendMode;
 
@@ -104,14 +104,21 @@ pub fn reset_type_in(vendor: u64, word: u64) -> ResetType
     }
 }
 
-// The feature of the number in the low 32 bits; the SMCCC version where no feature has that number.
+// The feature of the number in the low 32 bits; the SMCCC version where no feature has that number. The functions are gone through: with a second
+// caller of `PsciFeature::try_from_u32` the compiler would inline it in neither, and every decode would have a stack frame for the call.
 pub fn feature_in(number: u64) -> PsciFeature
     ensures { λ r. ⌜ r ≡ featureIn number ⌝ }
 {
-    match PsciFeature::try_from_u32(low32(number)) {
-        PsciFeatureResult::Ok(feature) => feature,
-        PsciFeatureResult::Err(_) => PsciFeature::SmcccVersion,
+    let word = low32(number);
+    let mut i = 0;
+    while i < 35 {
+        let function_id = FunctionId::at_index(i);
+        if function_id.to_u32() == word {
+            return PsciFeature::PsciFunction(function_id);
+        }
+        i += 1;
     }
+    PsciFeature::SmcccVersion
 }
 
 // 0 for platform coordinated, any other number for OS initiated.
