@@ -14,7 +14,9 @@ pub struct Input {
 // One read to the lent bytes from an offset on: the offset after what it put there, and whether it failed.
 fn read_from(fd: i32, buf: &mut [u8], from: usize) -> Input
     requires { ⌜ from ≤ length (now buf) ⌝ }
-    ensures { λ r. ⌜ (from ≤ r .size) × (r .size ≤ length (now (buf .entry))) × (r .failed ≡ true → r .size ≡ from) ⌝ }
+    ensures onward { λ r. ⌜ from ≤ r .size ⌝ }
+    ensures within { λ r. ⌜ r .size ≤ length (now (buf .entry)) ⌝ }
+    ensures failed_reads_nothing { λ r. ⌜ (r .failed ≡ true → r .size ≡ from) ⌝ }
 {
     let rest = &mut buf[from..];
     let got = libc::read(fd, rest);

@@ -19,7 +19,7 @@ failed-read : tie.Need-returns Inv-loop μ-loop
 failed-read c = record {
   as-many = omega arith;
   within = omega arith;
-  room = λ failed. omega (arith, c .before .before .before .read-from .ensures .2 failed);
+  room = λ failed. omega (arith, c .before .before .before .read-from .ensures .1 .1 failed);
 }
 
 -- where no read failed

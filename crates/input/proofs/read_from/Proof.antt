@@ -21,8 +21,10 @@ none (negsuc k) most t = refl
 returns : tie.Need-returns
 returns c = (
   search needs,
-  search needs,
-  (λ failed. let k : c .before .before .count .result ≡ 0 = c .before .before .count .ensures .1 ∙ none (toZ w64 (ofZ w64 (c .before .before .before .before .before .before .read .result))) _ failed in omega (arith, k)),
+  (
+    search needs,
+    (λ failed. let k : c .before .before .count .result ≡ 0 = c .before .before .count .ensures .1 ∙ none (toZ w64 (ofZ w64 (c .before .before .before .before .before .before .read .result))) _ failed in omega (arith, k)),
+  ),
 )
 
 pub read-from-spec : {M : Type 1} → statement M
