@@ -1,5 +1,7 @@
 // What is turned back, and why: document 01, "What is turned back, by operation". The number beside each case is document 01's, above 25
 // that of a request in document 02.
+#![tactic(auto)]
+
 ghost use Rattle.std.specs.Prelude.{◌≡◌};
 ghost use Rattle.bits.specs.Signs.{word_of};
 ghost use Rattle.answers.specs.Errors.{refusal_number, refusal_value};
@@ -9,7 +11,7 @@ pub mod told;
 use bits::signs;
 
 // What the codec turns back, with the value that it carries.
-#[derive(Drop)]
+#[derive(Clone, Copy)]
 pub enum Error {
     UnrecognisedFunctionId(u32), // 1
     InvalidPowerState(u32), // 2
@@ -99,7 +101,7 @@ fn sign_extended(value: i32) -> u64
 }
 
 // What writing a 32-bit word gives.
-#[derive(Drop)]
+#[derive(Clone, Copy)]
 pub enum WordResult {
     Ok(u32),
     Err(Error),

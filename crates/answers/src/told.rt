@@ -7,7 +7,7 @@ use crate::Error;
 
 // A refusal's number and what it carries, or twice 0.
 #[repr(C)]
-#[derive(Drop)]
+#[derive(Clone, Copy)]
 pub struct Refusal {
     pub number: u64,
     pub carried: u64,

@@ -3,7 +3,7 @@ ghost use Rattle.std.specs.Prelude.{◌≡◌};
 ghost use Rattle.bits.specs.Halves.{register_of};
 
 // The upper and the lower 32 bits of a register.
-#[derive(Drop)]
+#[derive(Clone, Copy)]
 pub struct Halves {
     pub upper: u32,
     pub lower: u32,

@@ -18,7 +18,7 @@ pub const UNKNOWN_TAG: u64 = 1002;
 pub const WRONG_PART: u64 = 1003;
 
 // The call that words ask for, or what is wrong with them.
-#[derive(Drop)]
+#[derive(Clone, Copy)]
 pub enum Asked {
     Call(Function),
     UnknownTag(u64),

@@ -1,5 +1,7 @@
 // The codec for callers in C and Rust: decode, encode, and one after the other; what decodes, by document 01's decoder and by Change 2's. A call is
 // handed over as nine words.
+#![tactic(auto)]
+
 ghost use Rattle.std.specs.Prelude.{List, ◌≡◌, ℕ};
 ghost use Rattle.answers.specs.Answers.{through};
 ghost use Rattle.answers.specs.Lent.{Writes};

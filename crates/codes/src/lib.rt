@@ -1,4 +1,6 @@
 // Error codes and return codes, signed, with their readers and writers: document 01, "Single words".
+#![tactic(auto)]
+
 ghost use Rattle.std.specs.Prelude.{◌≡◌};
 ghost use Rattle.codes.specs.Codes.{code_of_refusal, error_code_of, code_number, error_code_answer, read_error_code, read_error_code64, return_number, return_code_answer, read_return_code};
 ghost use Rattle.bits.specs.Signs.{signed, word_of};
@@ -7,7 +9,7 @@ use answers::Error;
 use bits::signs;
 
 // DEN0022 5.2.2.
-#[derive(Drop)]
+#[derive(Clone, Copy)]
 pub enum ErrorCode {
     NotSupported,
     InvalidParameters,
@@ -21,7 +23,7 @@ pub enum ErrorCode {
 }
 
 // What reading an error code gives.
-#[derive(Drop)]
+#[derive(Clone, Copy)]
 pub enum ErrorCodeResult {
     Ok(ErrorCode),
     Err(Error),
@@ -118,14 +120,14 @@ impl ErrorCode {
 }
 
 // Success, or an error code.
-#[derive(Drop)]
+#[derive(Clone, Copy)]
 pub enum ReturnCode {
     Success,
     Error(ErrorCode),
 }
 
 // What reading a return code gives.
-#[derive(Drop)]
+#[derive(Clone, Copy)]
 pub enum ReturnCodeResult {
     Ok(ReturnCode),
     Err(Error),

@@ -1,4 +1,6 @@
 // Decoding: four registers to a typed call, as document 01 reads them and as DEN0028 does.
+#![tactic(auto)]
+
 ghost use Rattle.std.specs.Prelude.{◌≡◌};
 ghost use Rattle.function.specs.Functions.{function_answer};
 ghost use Rattle.decode_definition.specs.Decode.{decode_of, decode_smccc};

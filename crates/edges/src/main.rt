@@ -1,4 +1,6 @@
 // The edges of document 01's log, its reader, the line and the sheet, run. What they must give is written out in tools/expected-edges.
+#![tactic(auto)]
+
 mod answers;
 mod example;
 mod lines;

@@ -10,7 +10,7 @@ use function::Function;
 use words::flag_word;
 
 // Words 1 to 3 of a call.
-#[derive(Drop)]
+#[derive(Clone, Copy)]
 pub struct Arguments {
     pub r1: u64,
     pub r2: u64,
@@ -18,7 +18,7 @@ pub struct Arguments {
 }
 
 // What the argument words of a call are, or the refusal of its power state or its reset type.
-#[derive(Drop)]
+#[derive(Clone, Copy)]
 pub enum ArgumentsResult {
     Ok(Arguments),
     Err(Error),

@@ -1,4 +1,6 @@
 // Encoding: a call to a lent run of four numbers.
+#![tactic(auto)]
+
 ghost use Rattle.std.specs.Prelude.{◌≡◌, ◌∷◌, [], length};
 ghost use Rattle.answers.specs.Answers.{accepted};
 ghost use Rattle.answers.specs.Lent.{Writes, itself};
@@ -18,7 +20,7 @@ use function_ids::{FunctionId, FunctionIdResult};
 const RUN: usize = 4;
 
 // What encoding gives: the words are in the lent run, or nothing was written.
-#[derive(Drop)]
+#[derive(Clone, Copy)]
 pub enum EncodeResult {
     Ok,
     Err(Error),

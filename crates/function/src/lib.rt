@@ -1,4 +1,6 @@
 // The typed call: the enum Function, its function number, and the cores that it names (named_cores.rt).
+#![tactic(auto)]
+
 ghost use Rattle.std.specs.Prelude.{◌≡◌};
 ghost use Rattle.function_ids.specs.FunctionIds.{function_id_answer};
 ghost use Rattle.function.specs.Functions.{function_id_of};
@@ -15,7 +17,7 @@ use words::{
 };
 
 // The calls with their arguments.
-#[derive(Drop)]
+#[derive(Clone, Copy)]
 pub enum Function {
     Version,
     CpuSuspend {
@@ -82,7 +84,7 @@ pub enum Function {
 }
 
 // What decoding gives.
-#[derive(Drop)]
+#[derive(Clone, Copy)]
 pub enum FunctionResult {
     Ok(Function),
     Err(Error),

@@ -7,7 +7,7 @@ use words::Mpidr;
 
 // The cores that a call names: every core whose affinity fields from a level up are the MPIDR's. An absent affinity 3 is handed on as it is, and
 // so is a level above 3.
-#[derive(Drop)]
+#[derive(Clone, Copy)]
 pub enum NamedCores {
     Nobody,
     Group { mpidr: Mpidr, level: u32 },

@@ -1,5 +1,7 @@
 // The 35 function numbers: the enum FunctionId, its reader and its writer, and their rising order (indexes.rt). The table of calls is a definition
 // alone (specs/CallTable.antt).
+#![tactic(auto)]
+
 ghost use Rattle.std.specs.Prelude.{◌≡◌};
 ghost use Rattle.function_ids.specs.FunctionIds.{function_number, read_function_id, function_id_answer};
 
@@ -8,7 +10,7 @@ mod indexes;
 use answers::Error;
 
 // The function numbers, DEN0022 5.1, in rising order of their low half.
-#[derive(Drop)]
+#[derive(Clone, Copy)]
 pub enum FunctionId {
     PsciVersion,
     CpuSuspend32,
@@ -48,7 +50,7 @@ pub enum FunctionId {
 }
 
 // What reading a function number gives.
-#[derive(Drop)]
+#[derive(Clone, Copy)]
 pub enum FunctionIdResult {
     Ok(FunctionId),
     Err(Error),

@@ -1,5 +1,7 @@
 // Leftovers for callers in C and Rust, document 02's Change 7: decoding with leftovers, by document 01's decoder and by Change 2's, and writing with
 // leftovers. A call is handed over as nine words, as call_exports does.
+#![tactic(auto)]
+
 ghost use Rattle.std.specs.Prelude.{◌≡◌, length};
 ghost use Rattle.answers.specs.Answers.{through};
 ghost use Rattle.answers.specs.Lent.{Writes};

@@ -1,5 +1,7 @@
 // Reads a call log from standard input and prints what decoding ignores of each record, its leftovers: document 02, Change 7. What they are, and that
 // they are written so, is sheet_text's part. A log that could not be read to its end has none: a line on standard error says so.
+#![tactic(auto)]
+
 use input::read_all;
 use sheet_text::{LISTING_ROOM, write_leftovers};
 

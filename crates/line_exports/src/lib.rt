@@ -1,4 +1,6 @@
 // The line of a record, for the benchmark and callers in C.
+#![tactic(auto)]
+
 ghost use Rattle.std.specs.Prelude.{◌≡◌};
 ghost use Rattle.answers.specs.Lent.{Writes};
 ghost use Rattle.record_line.specs.Errors.{line_refusal_number, line_refusal_value};
@@ -11,7 +13,7 @@ use record_line::{LineError, LineResult};
 // 0, and how many bytes of the lent run are the line; or a refusal's number, and what it carries. Two words, which C on x86-64 and on AArch64
 // gives back in registers: a longer struct goes through a pointer, and the two do not pass that alike.
 #[repr(C)]
-#[derive(Drop)]
+#[derive(Clone, Copy)]
 pub struct Written {
     pub number: u64,
     pub value: u64,

@@ -1,5 +1,7 @@
 // Two readers of a 64-bit MPIDR, for oracle/bench alone: the codec's, by the halves of the register, and one by the whole register with the
 // same contract. C reaches both in the same way.
+#![tactic(auto)]
+
 ghost use Rattle.std.specs.Prelude.{◌≡◌, length, get_or};
 ghost use Rattle.answers.specs.Answers.{through};
 ghost use Rattle.answers.specs.Lent.{Writes};

@@ -1,5 +1,7 @@
 // Document 01, "The call log and its sheet": numbers and words as text, each put into a lent run at an offset. Where a text of the greatest
 // length has no room nothing is written, and the offset is given back.
+#![tactic(auto)]
+
 ghost use Rattle.std.specs.Prelude.{◌≡◌, ◌∷◌, ◌++◌, ◌+◌, ◌-◌, ◌≤◌};
 ghost use Rattle.answers.specs.Lent.{WroteInRoom};
 ghost use Rattle.number_text.specs.Text.{space, decimal, word_text, words_text};

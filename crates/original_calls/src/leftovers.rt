@@ -15,7 +15,7 @@ use encode::EncodeResult;
 use roundtrip::leftovers::{put_back, xor_each};
 
 // What `decode_original` answers, and beside it the four words that it ignored.
-#[derive(Drop)]
+#[derive(Clone, Copy)]
 pub struct OriginalWithLeftovers {
     pub answer: OriginalFunctionResult,
     pub leftovers: [u64; 4],

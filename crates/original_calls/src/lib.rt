@@ -1,5 +1,7 @@
 // Calls of boards that are set to the original power state, document 02's Change 1: their typed call, decoding, encoding, both in one, and each with
 // leftovers. What differs from document 01's calls stands in specs/TwoFormats.antt.
+#![tactic(auto)]
+
 ghost use Rattle.std.specs.Prelude.{◌∷◌, [], ◌≡◌, get_or};
 ghost use Rattle.answers.specs.Lent.{Writes, itself};
 ghost use Rattle.words.specs.OriginalPowerStates.{read_original_power_state, original_power_state_answer};
@@ -26,7 +28,7 @@ pub use original_function::{OriginalFunction, OriginalFunctionResult, StatelessF
 use words::{OriginalPowerState, OriginalPowerStateResult};
 
 // Registers 1 and 2 with 0 in place of the power state, and the power state's word: 0 if the registers have none.
-#[derive(Drop)]
+#[derive(Clone, Copy)]
 struct StateApart {
     r1: u64,
     r2: u64,

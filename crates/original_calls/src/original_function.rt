@@ -12,7 +12,7 @@ use words::{
 };
 
 // The calls that have no power state: they are the same in both formats.
-#[derive(Drop)]
+#[derive(Clone, Copy)]
 pub enum StatelessFunction {
     Version,
     CpuOff,
@@ -68,7 +68,7 @@ pub enum StatelessFunction {
 
 // The calls with their arguments, the power states in the original format. Every value is one call, and no power state of the extended format
 // has a place in it.
-#[derive(Drop)]
+#[derive(Clone, Copy)]
 pub enum OriginalFunction {
     CpuSuspend {
         state: OriginalPowerState,
@@ -86,7 +86,7 @@ pub enum OriginalFunction {
 }
 
 // What decoding gives.
-#[derive(Drop)]
+#[derive(Clone, Copy)]
 pub enum OriginalFunctionResult {
     Ok(OriginalFunction),
     Err(Error),

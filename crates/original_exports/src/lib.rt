@@ -1,5 +1,7 @@
 // The codec of boards that are set to the original power state, for callers in C and Rust: decode, encode, and one after the other. A call is handed
 // over as nine words.
+#![tactic(auto)]
+
 ghost use Rattle.std.specs.Prelude.{◌≡◌};
 ghost use Rattle.answers.specs.Answers.{through};
 ghost use Rattle.answers.specs.Lent.{Writes};

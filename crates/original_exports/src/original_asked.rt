@@ -11,7 +11,7 @@ use original_calls::OriginalFunction;
 use words::OriginalPowerState;
 
 // The call that words ask for, or what is wrong with them.
-#[derive(Drop)]
+#[derive(Clone, Copy)]
 pub enum OriginalAsked {
     Call(OriginalFunction),
     UnknownTag(u64),

@@ -7,6 +7,8 @@
 //
 // The last line says how many records and sweeps were compared, and how many differed. A block cut short counts as one that differs, and so
 // does a record that a label lacks.
+#![tactic(auto)]
+
 mod calls;
 mod compared;
 mod leftovers;
@@ -29,7 +31,7 @@ use shown::{new_line, show_case, show_label};
 const BLOCK: usize = 128;
 
 // What was compared so far; whether the last block was a label, or cut short; whether there may be more; whether a read failed.
-#[derive(Drop)]
+#[derive(Clone, Copy)]
 struct Tally {
     seen: u64,
     differed: u64,

@@ -8,7 +8,7 @@ use call_exports::parts::wide32;
 use call_exports::same_words::differing_bits;
 
 // A field for each word, and no array: the check of a function that reads elements of an array takes longer, with each of them.
-#[derive(Drop)]
+#[derive(Clone, Copy)]
 pub(crate) struct Record {
     pub(crate) operation: u64,
     pub(crate) tag: u64,

@@ -16,7 +16,7 @@ use encode::EncodeResult;
 use function::{Function, FunctionResult};
 
 // What a decoder answers, and beside it the four words that it ignored.
-#[derive(Drop)]
+#[derive(Clone, Copy)]
 pub struct WithLeftovers {
     pub answer: FunctionResult,
     pub leftovers: [u64; 4],

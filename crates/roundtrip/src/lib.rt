@@ -1,5 +1,7 @@
 // Demand 3: what is decoded encodes, decodes back and is zero elsewhere: statement, proof, and `recode` and `recode_smccc`, the program's part
 // in it.
+#![tactic(auto)]
+
 ghost use Rattle.std.specs.Prelude.{◌≡◌};
 ghost use Rattle.answers.specs.Lent.{Writes, itself};
 ghost use Rattle.decode_definition.specs.Decode.{decode_of, decode_smccc};

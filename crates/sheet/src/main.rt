@@ -1,5 +1,7 @@
 // Reads a call log from standard input and prints its sheet. What the sheet is, and that it is written so, is sheet_text's part. A log
 // that could not be read to its end has no sheet: a line on standard error says so.
+#![tactic(auto)]
+
 use input::read_all;
 use sheet_text::{LISTING_ROOM, write_sheet};
 

@@ -2,7 +2,7 @@ ghost use Rattle.std.specs.Prelude.{◌≡◌};
 ghost use Rattle.words.specs.Cookies.{cookie_word};
 
 // The additional parameter of SYSTEM_OFF2 and SYSTEM_RESET2.
-#[derive(Drop)]
+#[derive(Clone, Copy)]
 pub enum Cookie {
     Cookie32(u32),
     Cookie64(u64),

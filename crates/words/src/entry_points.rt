@@ -2,7 +2,7 @@ ghost use Rattle.std.specs.Prelude.{◌≡◌};
 ghost use Rattle.words.specs.EntryPoints.{entry_address, entry_context};
 
 // Where a core starts, and the value that it is handed.
-#[derive(Drop)]
+#[derive(Clone, Copy)]
 pub enum EntryPoint {
     Entry32 {
         entry_point_address: u32,

@@ -4,7 +4,7 @@ ghost use Rattle.words.specs.HwStates.{read_hw_state, hw_state_answer, hw_state_
 use answers::Error;
 
 // NODE_HW_STATE return value, DEN0022 5.1.18.
-#[derive(Drop)]
+#[derive(Clone, Copy)]
 pub enum HwState {
     On,
     Off,
@@ -12,7 +12,7 @@ pub enum HwState {
 }
 
 // What reading a hardware state gives.
-#[derive(Drop)]
+#[derive(Clone, Copy)]
 pub enum HwStateResult {
     Ok(HwState),
     Err(Error),

@@ -1,5 +1,7 @@
 // The single words of a power call, a module for each type, with its reader, its writer, its constants and its laws: document 01, "Single
 // words" and "The typed call", and document 02, Change 1. Function numbers and codes have crates of their own.
+#![tactic(auto)]
+
 mod cookies;
 mod entry_points;
 mod flags;

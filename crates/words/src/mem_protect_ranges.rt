@@ -2,7 +2,7 @@ ghost use Rattle.std.specs.Prelude.{◌≡◌};
 ghost use Rattle.words.specs.MemProtectRanges.{base_word, length_word};
 
 // The memory range of MEM_PROTECT_CHECK_RANGE, DEN0022 5.1.14.
-#[derive(Drop)]
+#[derive(Clone, Copy)]
 pub enum MemProtectRange {
     Range32 { base: u32, length: u32 },
     Range64 { base: u64, length: u64 },

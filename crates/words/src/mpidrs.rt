@@ -8,14 +8,14 @@ use answers::{Error, WordResult};
 use bits::halves::Halves;
 
 // Affinity 3, which a 32-bit MPIDR lacks.
-#[derive(Drop)]
+#[derive(Clone, Copy)]
 pub enum Aff3 {
     None,
     Some(u8),
 }
 
 // The affinity fields of MPIDR, which name a core.
-#[derive(Drop)]
+#[derive(Clone, Copy)]
 pub struct Mpidr {
     pub aff0: u8,
     pub aff1: u8,
@@ -24,7 +24,7 @@ pub struct Mpidr {
 }
 
 // What reading an MPIDR gives.
-#[derive(Drop)]
+#[derive(Clone, Copy)]
 pub enum MpidrResult {
     Ok(Mpidr),
     Err(Error),

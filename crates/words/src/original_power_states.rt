@@ -6,7 +6,7 @@ ghost use Rattle.words.specs.OriginalPowerStates.{read_original_power_state, wri
 use answers::{Error, WordResult};
 
 // A power state in DEN0022's original format. The word has room for a level of at most 3.
-#[derive(Drop)]
+#[derive(Clone, Copy)]
 pub struct OriginalPowerState {
     pub state_id: u16,
     pub power_down: bool,
@@ -14,7 +14,7 @@ pub struct OriginalPowerState {
 }
 
 // What reading a power state in the original format gives.
-#[derive(Drop)]
+#[derive(Clone, Copy)]
 pub enum OriginalPowerStateResult {
     Ok(OriginalPowerState),
     Err(Error),

@@ -6,14 +6,14 @@ ghost use Rattle.words.specs.PowerStates.{read_power_state, write_power_state, p
 use answers::{Error, WordResult};
 
 // A power state in the extended state ID format, DEN0022 table 8.
-#[derive(Drop)]
+#[derive(Clone, Copy)]
 pub enum PowerState {
     StandbyOrRetention(u32),
     PowerDown(u32),
 }
 
 // What reading a power state gives.
-#[derive(Drop)]
+#[derive(Clone, Copy)]
 pub enum PowerStateResult {
     Ok(PowerState),
     Err(Error),

@@ -5,14 +5,14 @@ use answers::Error;
 use function_ids::{FunctionId, FunctionIdResult};
 
 // PSCI_FEATURES psci_func_id, DEN0022 5.1.15.
-#[derive(Drop)]
+#[derive(Clone, Copy)]
 pub enum PsciFeature {
     PsciFunction(FunctionId),
     SmcccVersion,
 }
 
 // What reading a feature gives.
-#[derive(Drop)]
+#[derive(Clone, Copy)]
 pub enum PsciFeatureResult {
     Ok(PsciFeature),
     Err(Error),

@@ -6,13 +6,13 @@ ghost use Rattle.words.specs.ResetTypes.{architectural_number, read_architectura
 use answers::{Error, WordResult};
 
 // SYSTEM_RESET2 architectural reset type, DEN0022 5.1.12.
-#[derive(Drop)]
+#[derive(Clone, Copy)]
 pub enum ArchitecturalResetType {
     SystemWarmReset,
 }
 
 // What reading an architectural reset type gives.
-#[derive(Drop)]
+#[derive(Clone, Copy)]
 pub enum ArchitecturalResetTypeResult {
     Ok(ArchitecturalResetType),
     Err(Error),
@@ -40,14 +40,14 @@ impl ArchitecturalResetType {
 }
 
 // SYSTEM_RESET2 reset type, DEN0022 5.1.12.
-#[derive(Drop)]
+#[derive(Clone, Copy)]
 pub enum ResetType {
     Architectural(ArchitecturalResetType),
     VendorSpecific(u32),
 }
 
 // What reading a reset type gives.
-#[derive(Drop)]
+#[derive(Clone, Copy)]
 pub enum ResetTypeResult {
     Ok(ResetType),
     Err(Error),

@@ -4,14 +4,14 @@ ghost use Rattle.words.specs.SuspendModes.{read_suspend_mode, suspend_mode_answe
 use answers::Error;
 
 // PSCI_SET_SUSPEND_MODE mode, DEN0022 5.1.20.
-#[derive(Drop)]
+#[derive(Clone, Copy)]
 pub enum SuspendMode {
     PlatformCoordinated,
     OsInitiated,
 }
 
 // What reading a suspend mode gives.
-#[derive(Drop)]
+#[derive(Clone, Copy)]
 pub enum SuspendModeResult {
     Ok(SuspendMode),
     Err(Error),

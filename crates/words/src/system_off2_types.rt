@@ -4,13 +4,13 @@ ghost use Rattle.words.specs.SystemOff2Types.{read_system_off2_type, system_off2
 use answers::Error;
 
 // SYSTEM_OFF2 type, DEN0022 5.1.10.
-#[derive(Drop)]
+#[derive(Clone, Copy)]
 pub enum SystemOff2Type {
     HibernateOff,
 }
 
 // What reading an off type gives.
-#[derive(Drop)]
+#[derive(Clone, Copy)]
 pub enum SystemOff2TypeResult {
     Ok(SystemOff2Type),
     Err(Error),

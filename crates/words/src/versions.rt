@@ -6,14 +6,14 @@ ghost use Rattle.words.specs.Versions.{read_version, write_version, version_answ
 use answers::{Error, WordResult};
 
 // A PSCI version.
-#[derive(Drop)]
+#[derive(Clone, Copy)]
 pub struct Version {
     pub major: u16,
     pub minor: u16,
 }
 
 // What reading a version gives.
-#[derive(Drop)]
+#[derive(Clone, Copy)]
 pub enum VersionResult {
     Ok(Version),
     Err(Error),
