@@ -7,6 +7,7 @@ use crate::FunctionId;
 
 impl FunctionId {
     // How many of the 35 functions have a smaller number: 0 to 34.
+    #[tactic(auto, unfolding(crate::specs::FunctionIndexes::index_of))]
     pub fn index(self) -> u64
         ensures { result ≡ index_of self }
     {
@@ -50,6 +51,7 @@ impl FunctionId {
     }
 
     // The function at an index, which is taken modulo 35: the last arm is that of 34.
+    #[tactic(auto, unfolding(crate::specs::FunctionIndexes::function_at))]
     pub fn at_index(index: u64) -> Self
         ensures { result ≡ function_at index }
     {

@@ -22,40 +22,40 @@ unknown (negsuc n) none = none_chosen code_size (refused 9 (negsuc n)) bits_of _
 
 pub returns-in_default : goal.returns-in_default
 unfolding read_error_code bits_of
-returns-in_default c = ap (refused 9) (to_z-of_z c.ranges.value) ∙ unknown c.args.value c.in_default.rest
+returns-in_default c = ap (refused 9) (to_z-of_z c.ranges.value) ∙ unknown c.args.value c.in_default.in_default-own.rest
 
 pub returns-in-minus1 : goal.returns-in-minus1
 unfolding read_error_code
-returns-in-minus1 c = sym (ap read_error_code (number_is w32 c.ranges.value c.in-minus1.keys1))
+returns-in-minus1 c = sym (ap read_error_code (number_is w32 c.ranges.value c.in-minus1.in-minus1-own.keys1))
 
 pub returns-in-minus2 : goal.returns-in-minus2
 unfolding read_error_code
-returns-in-minus2 c = sym (ap read_error_code (number_is w32 c.ranges.value c.in-minus2.keys2))
+returns-in-minus2 c = sym (ap read_error_code (number_is w32 c.ranges.value c.in-minus2.in-minus2-own.keys2))
 
 pub returns-in-minus3 : goal.returns-in-minus3
 unfolding read_error_code
-returns-in-minus3 c = sym (ap read_error_code (number_is w32 c.ranges.value c.in-minus3.keys3))
+returns-in-minus3 c = sym (ap read_error_code (number_is w32 c.ranges.value c.in-minus3.in-minus3-own.keys3))
 
 pub returns-in-minus4 : goal.returns-in-minus4
 unfolding read_error_code
-returns-in-minus4 c = sym (ap read_error_code (number_is w32 c.ranges.value c.in-minus4.keys4))
+returns-in-minus4 c = sym (ap read_error_code (number_is w32 c.ranges.value c.in-minus4.in-minus4-own.keys4))
 
 pub returns-in-minus5 : goal.returns-in-minus5
 unfolding read_error_code
-returns-in-minus5 c = sym (ap read_error_code (number_is w32 c.ranges.value c.in-minus5.keys5))
+returns-in-minus5 c = sym (ap read_error_code (number_is w32 c.ranges.value c.in-minus5.in-minus5-own.keys5))
 
 pub returns-in-minus6 : goal.returns-in-minus6
 unfolding read_error_code
-returns-in-minus6 c = sym (ap read_error_code (number_is w32 c.ranges.value c.in-minus6.keys6))
+returns-in-minus6 c = sym (ap read_error_code (number_is w32 c.ranges.value c.in-minus6.in-minus6-own.keys6))
 
 pub returns-in-minus7 : goal.returns-in-minus7
 unfolding read_error_code
-returns-in-minus7 c = sym (ap read_error_code (number_is w32 c.ranges.value c.in-minus7.keys7))
+returns-in-minus7 c = sym (ap read_error_code (number_is w32 c.ranges.value c.in-minus7.in-minus7-own.keys7))
 
 pub returns-in-minus8 : goal.returns-in-minus8
 unfolding read_error_code
-returns-in-minus8 c = sym (ap read_error_code (number_is w32 c.ranges.value c.in-minus8.keys8))
+returns-in-minus8 c = sym (ap read_error_code (number_is w32 c.ranges.value c.in-minus8.in-minus8-own.keys8))
 
 pub returns-in-minus9 : goal.returns-in-minus9
 unfolding read_error_code
-returns-in-minus9 c = sym (ap read_error_code (number_is w32 c.ranges.value c.in-minus9.keys9))
+returns-in-minus9 c = sym (ap read_error_code (number_is w32 c.ranges.value c.in-minus9.in-minus9-own.keys9))

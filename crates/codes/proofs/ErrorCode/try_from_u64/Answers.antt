@@ -3,6 +3,7 @@ use mathlib.Core.Path.{◌≡◌, refl, ap, sym, ◌∙◌}
 use Prim.Native.Nat.{ℕ, suc, ◌-◌, ◌*◌, ◌≤◌, ◌<◌, ◌^◌}
 use native.Mathlib.Omega.{arith}
 use lib.IntN.{negsuc}
+use mir.Syntax.{w64}
 use mir.Facts.{to_z-of_z}
 use borrow.Author.Rules.{rules}
 use borrow.Author.Tests.{lt-ltb}
@@ -40,4 +41,4 @@ pub returns : goal.returns
 unfolding read_error_code64
 returns c =
     let word : ℕ = c.args.value in
-    if_false _ _ (beyond 32 64 word (omega arith) (omega arith)) (ap (refused 10) (to_z-of_z (search rules) ∙ c.signed_64.ensures))
+    if_false _ _ (beyond 32 64 word (omega arith) (omega arith)) (ap (refused 10) (to_z-of_z {w = w64} (search rules) ∙ c.signed_64.ensures))

@@ -23,7 +23,15 @@ unfolding read_return_code
 returns-then-value-eq0 c = sym (ap read_return_code (number_is w32 c.ranges.value c.if-value-eq0.true))
 
 pub returns-in-Ok : goal.returns-in-Ok
-returns-in-Ok c = search rules
+unfolding read_return_code
+returns-in-Ok c =
+    let z : ℤ = c.args.value in
+    if_false _ _ (ne_eqb (nat_abs z) 0 (λ q. c.if-value-eq0.false (zero_bits z q)))
+    (ap (through return.Error) (sym (ap error_code_answer c.in-Ok.is) ∙ c.try_from_i32.ensures ∙ ap read_error_code (to_z-of_z c.ranges.value)))
 
 pub returns-in-Err : goal.returns-in-Err
-returns-in-Err c = search rules
+unfolding read_return_code
+returns-in-Err c =
+    let z : ℤ = c.args.value in
+    if_false _ _ (ne_eqb (nat_abs z) 0 (λ q. c.if-value-eq0.false (zero_bits z q)))
+    (ap (through return.Error) (sym (ap error_code_answer c.in-Err.is) ∙ c.try_from_i32.ensures ∙ ap read_error_code (to_z-of_z c.ranges.value)))
