@@ -129,6 +129,7 @@ impl FunctionId {
     pub const SYSTEM_OFF2_64: u32 = 0xc400_0015;
 
     // The function of a number; a number that none of the 35 has is refused with 1, and carried.
+    #[tactic(auto, unfolding(crate::specs::FunctionIds::read_function_id))]
     pub fn try_from_u32(value: u32) -> FunctionIdResult
         ensures { function_id_answer result ≡ read_function_id value }
     {
