@@ -5,7 +5,6 @@ ghost use Rattle.std.specs.Prelude.{◌≡◌};
 ghost use Rattle.answers.specs.Lent.{Writes};
 ghost use Rattle.record_line.specs.Errors.{line_refusal_number, line_refusal_value};
 ghost use Rattle.record_line.specs.Line.{line_of};
-ghost use Rattle.record_line.specs.declared.Listing.TheVariants.{Sheet};
 ghost use Rattle.line_exports.specs.Exports.{refused_line, told_line};
 
 use record_line::{LineError, LineResult};
@@ -33,7 +32,7 @@ fn refused_line(error: LineError) -> Written
 // with 24, a number above 1,899; the lent bytes are then as they were.
 #[unsafe(no_mangle)]
 pub extern "C" fn psci_line(number: usize, regs: &[u64; 4], out: &mut [u8; 80]) -> Written
-    ensures writes { Writes told_line (line_of Sheet number regs.now out.old) out.old result out.new }
+    ensures writes { Writes told_line (line_of number regs.now out.old) out.old result out.new }
 {
     let r = *regs;
     match record_line::line(number, r, out) {

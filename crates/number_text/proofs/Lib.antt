@@ -1,4 +1,3 @@
-mod Glyphs
 pub mod DecimalLaws
 pub mod HexadecimalLaws
 pub mod Laws

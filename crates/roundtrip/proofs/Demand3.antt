@@ -10,7 +10,6 @@ use lib.Dec.{eqb}
 use lib.ListN.{length, get_or}
 use lib.Pow.{pow_mono}
 use borrow.Author.Tests.{eqb-true, eqb-false, eq-eqb, ne_eqb}
-use Rattle.bits.specs.Bits.{bit}
 use Rattle.bits.proofs.Picks.{choice}
 use Rattle.bits.proofs.SameBits.{bits_mod, mod_bits}
 use Rattle.answers.specs.Answers.{Answer, accepted}
@@ -18,7 +17,7 @@ use Rattle.answers.specs.Lent.{left}
 use Rattle.answers.proofs.Answering.{same_accepted}
 use Rattle.answers.proofs.Lending.{fronted_all}
 use Rattle.function_ids.specs.CallTable.{Part, low_half, whole, part_of, Look, nothing, value, zero_or_not, keep, number_in, kept_set}
-use Rattle.roundtrip.specs.Codec.{Codec, encode_by, ByTable, Registers, width, InField, AgreeIn, Agree, Inside, words_in, OfOne, OfTwo, Demand3}
+use Rattle.roundtrip.specs.Codec.{Codec, encode_by, ByTable, Registers, bit, width, InField, AgreeIn, Agree, Inside, words_in, OfOne, OfTwo, Demand3}
 
 -- ---- what is kept of a register
 

@@ -1,7 +1,6 @@
 -- A codec, what follows from it, the one law that it brings, and demand 3 about any codec, in the terms of document 01, "The four written words".
 -- Demand 3 is stated here and proved of any codec with that law in proofs/Demand3.antt, the law of what is inside in proofs/InsideLaws.antt.
-use Rattle.std.specs.Prelude.{◌≡◌, List, ◌⊎◌, ℕ, zero, suc, ◌%◌, ◌^◌, ◌<◌, length, get_or}
-use Rattle.bits.specs.Bits.{bit}
+use Rattle.std.specs.Prelude.{◌≡◌, List, ◌⊎◌, ℕ, zero, suc, ◌/◌, ◌%◌, ◌^◌, ◌<◌, length, get_or}
 use Rattle.answers.specs.Answers.{Answer, accepted, and_then}
 use Rattle.answers.specs.Lent.{left}
 use Rattle.function_ids.specs.CallTable.{Part, low_half, whole, part_of, Look, nothing, value, zero_or_not, keep, number_in, kept_set}
@@ -41,6 +40,10 @@ module _ (c : Codec) where
     pub writes : (r : List ℕ) (f : c.Call) → Registers r → c.decode r ≡ accepted f → c.words f ≡ accepted (kept_set c.look r)
 
 -- ---- demand 3, and its terms
+
+-- bit j of a word
+abbrev pub bit : ℕ → ℕ → ℕ
+bit j word = word / 2 ^ j % 2
 
 -- a field's bits are the low 32 bits or the whole register
 abbrev pub width : Part → ℕ

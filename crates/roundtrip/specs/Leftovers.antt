@@ -2,9 +2,8 @@
 -- with the leftovers restores the registers. Stated here, proved of any codec with the one law in proofs/LeftoverLaws.antt.
 use Rattle.std.specs.Prelude.{◌≡◌, List, [], ◌∷◌, ℕ, ◌<◌, length, get_or}
 use Rattle.std.specs.Int.Bits.{bit_xor}
-use Rattle.bits.specs.Bits.{bit}
 use Rattle.answers.specs.Answers.{Answer, accepted, refused, through}
-use Rattle.roundtrip.specs.Codec.{Codec, Registers, encode_by, reworded_by}
+use Rattle.roundtrip.specs.Codec.{Codec, Registers, bit, encode_by, reworded_by}
 
 -- four words, each exclusive-or its partner
 abbrev pub xor_each : List ℕ → List ℕ → List ℕ
