@@ -1,0 +1,12 @@
+-- `leftovers::decode_original_with_leftovers` meets its contract. Assumes nothing.
+use mathlib.Core.Path.{refl, ap, ◌∙◌}
+use borrow.Author.Rules.{rules}
+use Rattle.roundtrip.specs.Leftovers.{xor_each}
+use Rattle.roundtrip.proofs.PuttingBack.{beside}
+use Rattle.original_calls.specs.OriginalCodec.{original}
+use Rattle.original_calls.proofs.leftovers.decode_original_with_leftovers.Goals as goal
+
+pub returns : goal.returns
+returns c =
+    let regs = c.args.regs in
+    beside original regs (search rules) c.decode_original-answer.ensures refl (c.xor_each-leftovers.ensures ∙ ap (xor_each regs) c.words_or_zeros.ensures)

@@ -1,0 +1,10 @@
+-- `leftovers::decode_smccc_with_leftovers` meets its contract: what `with_leftovers` says, of this decoder's answer. Assumes nothing.
+use mathlib.Core.Path.{ap}
+use borrow.Author.Rules.{rules}
+use Rattle.function.specs.Functions.{function_answer}
+use Rattle.roundtrip.specs.Smccc.{smccc}
+use Rattle.roundtrip.proofs.PuttingBack.{beside}
+use Rattle.roundtrip.proofs.leftovers.decode_smccc_with_leftovers.Goals as goal
+
+pub returns-clause-leftovers : goal.returns-clause-leftovers
+returns-clause-leftovers c = (beside smccc c.args.regs (search rules) c.decode_smccc.ensures (ap function_answer c.with_leftovers.ensures.answer) c.with_leftovers.ensures.leftovers).1
