@@ -17,5 +17,5 @@ returns-in-Ok c =
     let regs = c.args.regs in
     let fits : (i : ℕ) → Fits w64 (get_or regs i 0) = λ i. search rules in
     let decoded = sym c.decode_original.ensures ∙ ap original_answer c.in-Ok.is in
-    let told = encoded original regs _ _ c.encode_original.result _ decoded c.encode_original.ensures in
-    (told, (λ ok. read_again original regs _ demand3_of_original c.encode_original.result _ (record { fits = λ i. (fits i).fits }) told ok))
+    let told = encoded original regs _ _ c.encode_original.result _ decoded c.encode_original.ensures.writes in
+    record { writes = told; read_again = λ ok. read_again original regs _ demand3_of_original c.encode_original.result _ (record { fits = λ i. (fits i).fits }) told ok }

@@ -6,7 +6,7 @@ use Rattle.roundtrip.proofs.PuttingBack.{beside}
 use Rattle.original_calls.specs.OriginalCodec.{original}
 use Rattle.original_calls.proofs.leftovers.decode_original_with_leftovers.Goals as goal
 
-pub returns : goal.returns
-returns c =
+pub returns-clause-leftovers : goal.returns-clause-leftovers
+returns-clause-leftovers c =
     let regs = c.args.regs in
-    beside original regs (search rules) c.decode_original-answer.ensures refl (c.xor_each-leftovers.ensures ∙ ap (xor_each regs) c.words_or_zeros.ensures)
+    (beside original regs (search rules) c.decode_original-answer.ensures refl (c.xor_each-leftovers.ensures ∙ ap (xor_each regs) c.words_or_zeros.ensures)).1
