@@ -1,0 +1,17 @@
+// libline_exports.a, the line of a record for C and Rust: the function of line_exports that is exported, with the clause that it has there.
+#![tactic(auto)]
+
+ghost use Rattle.answers.specs.Lent.{Writes};
+ghost use Rattle.record_line.specs.Line.{line_of};
+ghost use Rattle.record_line.specs.declared.Listing.TheVariants.{Sheet};
+ghost use Rattle.line_exports.specs.Exports.{told_line};
+
+use line_exports::Written;
+
+// Writes the line of a record at the front of the lent bytes.
+#[unsafe(no_mangle)]
+pub extern "C" fn psci_line(number: usize, regs: &[u64; 4], out: &mut [u8; 80]) -> Written
+    ensures writes { Writes told_line (line_of Sheet number regs.now out.old) out.old result out.new }
+{
+    line_exports::psci_line(number, regs, out)
+}

@@ -1,0 +1,37 @@
+// liboriginal_exports.a, the codec of boards that are set to the original power state, for C and Rust: each function of original_exports that is
+// exported, with the clauses that it has there.
+#![tactic(auto)]
+
+ghost use Rattle.answers.specs.Answers.{through};
+ghost use Rattle.answers.specs.Lent.{Writes};
+ghost use Rattle.answers.specs.Told.{refusal_in};
+ghost use Rattle.original_calls.specs.OriginalCalls.{original_decode_of};
+ghost use Rattle.original_calls.specs.OriginalCodec.{recode_original};
+ghost use Rattle.original_exports.specs.OriginalNineWords.{original_nine_words};
+ghost use Rattle.original_exports.specs.OriginalAsked.{encode_original_words};
+
+use answers::told::Refusal;
+
+// The nine words of the call that four registers make.
+#[unsafe(no_mangle)]
+pub extern "C" fn psci_decode_original(regs: &[u64; 4], out: &mut [u64; 9]) -> Refusal
+    ensures writes { Writes refusal_in (through original_nine_words (original_decode_of regs.now)) out.old result out.new }
+{
+    original_exports::psci_decode_original(regs, out)
+}
+
+// The four words of the call that nine words stand for.
+#[unsafe(no_mangle)]
+pub extern "C" fn psci_encode_original(call: &[u64; 9], out: &mut [u64; 4]) -> Refusal
+    ensures writes { Writes refusal_in (encode_original_words call.now out.old) out.old result out.new }
+{
+    original_exports::psci_encode_original(call, out)
+}
+
+// Decodes four registers and encodes the call.
+#[unsafe(no_mangle)]
+pub extern "C" fn psci_recode_original(regs: &[u64; 4], out: &mut [u64; 4]) -> Refusal
+    ensures writes { Writes refusal_in (recode_original regs.now out.old) out.old result out.new }
+{
+    original_exports::psci_recode_original(regs, out)
+}
