@@ -3,79 +3,80 @@ use crate::text::{new_line, number, refused, space};
 use call_log::counts::Counted;
 use call_log::errors::LogError;
 use call_log::{OpenResult, ReadResult, counts, readers, records};
+use std::io;
 
-fn colon() {
-    io::write_all(1, b": ");
+fn colon(rt: &impl Print) -> io::Result<()> {
+    rt.print(": ")
 }
 
-fn show_refusal(error: LogError) {
-    refused(error.number() as u64, error.value());
+fn show_refusal(rt: &impl Print, error: LogError) -> io::Result<()> {
+    refused(rt, error.number() as u64, error.value())
 }
 
-fn show_read_answer(answer: ReadResult) {
+fn show_read_answer(rt: &impl Print, answer: ReadResult) -> io::Result<()> {
     match answer {
         ReadResult::Record(next) => {
-            io::write_all(1, b"record, next ");
-            number(next as u64);
+            rt.print("record, next ")?;
+            number(rt, next as u64)?;
         }
         ReadResult::End => {
-            io::write_all(1, b"end");
+            rt.print("end")?;
         }
-        ReadResult::Err(error) => show_refusal(error),
+        ReadResult::Err(error) => show_refusal(rt, error)?,
     }
-    new_line();
+    new_line(rt)
 }
 
-fn show_size(log: &[u8]) {
-    number(log.len() as u64);
-    io::write_all(1, b" bytes, ");
+fn show_size(rt: &impl Print, log: &[u8]) -> io::Result<()> {
+    number(rt, log.len() as u64)?;
+    rt.print(" bytes, ")
 }
 
-pub(crate) fn show_read(log: &[u8], at: usize) {
-    show_size(log);
-    io::write_all(1, b"read at ");
-    number(at as u64);
-    colon();
-    show_read_answer(call_log::read_at(log, at));
+pub(crate) fn show_read(rt: &impl Print, log: &[u8], at: usize) -> io::Result<()> {
+    show_size(rt, log)?;
+    rt.print("read at ")?;
+    number(rt, at as u64)?;
+    colon(rt)?;
+    show_read_answer(rt, call_log::read_at(log, at))
 }
 
-pub(crate) fn show_part(log: &[u8], at: usize) {
-    show_size(log);
-    io::write_all(1, b"part at ");
-    number(at as u64);
-    io::write_all(1, b": length ");
-    number(records::record_at(log, at).len() as u64);
-    new_line();
+pub(crate) fn show_part(rt: &impl Print, log: &[u8], at: usize) -> io::Result<()> {
+    show_size(rt, log)?;
+    rt.print("part at ")?;
+    number(rt, at as u64)?;
+    rt.print(": length ")?;
+    number(rt, records::record_at(log, at).len() as u64)?;
+    new_line(rt)
 }
 
-pub(crate) fn show_open(log: &[u8]) {
-    show_size(log);
-    io::write_all(1, b"open: ");
+pub(crate) fn show_open(rt: &impl Print, log: &[u8]) -> io::Result<()> {
+    show_size(rt, log)?;
+    rt.print("open: ")?;
     match call_log::open(log) {
         OpenResult::Ok(start) => {
-            io::write_all(1, b"position ");
-            number(start as u64);
+            rt.print("position ")?;
+            number(rt, start as u64)?;
         }
-        OpenResult::Err(error) => show_refusal(error),
+        OpenResult::Err(error) => show_refusal(rt, error)?,
     }
-    new_line();
+    new_line(rt)
 }
 
-pub(crate) fn show_count(log: &[u8]) {
+pub(crate) fn show_count(rt: &impl Print, log: &[u8]) -> io::Result<()> {
     let Counted { records, refusal } = counts::count(log);
-    show_size(log);
-    io::write_all(1, b"count: ");
-    number(records as u64);
-    space();
-    number(refusal as u64);
-    new_line();
+    show_size(rt, log)?;
+    rt.print("count: ")?;
+    number(rt, records as u64)?;
+    space(rt)?;
+    number(rt, refusal as u64)?;
+    new_line(rt)
 }
 
 // What a reader made at a position answers the second time.
-pub(crate) fn show_second(log: &[u8], at: usize) {
-    show_size(log);
-    io::write_all(1, b"second answer of a reader at ");
-    number(at as u64);
-    colon();
-    show_read_answer(readers::second(log, at));
+pub(crate) fn show_second(rt: &impl Print, log: &[u8], at: usize) -> io::Result<()> {
+    show_size(rt, log)?;
+    rt.print("second answer of a reader at ")?;
+    number(rt, at as u64)?;
+    colon(rt)?;
+    show_read_answer(rt, readers::second(log, at))
 }

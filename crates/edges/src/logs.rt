@@ -1,6 +1,7 @@
 // The edges of the log and its reader.
 use crate::answers::{show_count, show_open, show_part, show_read, show_second};
 use crate::example::LOG;
+use std::io;
 
 // What a case asks of the log.
 const OPEN: u8 = 0;
@@ -50,13 +51,13 @@ const CASES: [[u8; 4]; 30] = [
     [COUNT, 0, 68, 0],
 ];
 
-fn show_asked(asked: u8, log: &[u8], at: usize) {
+fn show_asked(rt: &impl Print, asked: u8, log: &[u8], at: usize) -> io::Result<()> {
     match asked {
-        OPEN => show_open(log),
-        READ => show_read(log, at),
-        PART => show_part(log, at),
-        COUNT => show_count(log),
-        _ => show_second(log, at),
+        OPEN => show_open(rt, log),
+        READ => show_read(rt, log, at),
+        PART => show_part(rt, log, at),
+        COUNT => show_count(rt, log),
+        _ => show_second(rt, log, at),
     }
 }
 
@@ -68,42 +69,45 @@ fn position(at: u8) -> usize {
     }
 }
 
-fn show_case(case: [u8; 4]) {
+fn show_case(rt: &impl Print, case: [u8; 4]) -> io::Result<()> {
     let log = LOG;
     let from = case[1] as usize;
     let to = case[2] as usize;
     if from <= to && to <= 69 {
-        show_asked(case[0], &log[from..to], position(case[3]));
+        show_asked(rt, case[0], &log[from..to], position(case[3]))?;
     }
+    Ok(())
 }
 
-pub(crate) fn show_cases() {
+pub(crate) fn show_cases(rt: &impl Print) -> io::Result<()> {
     let mut i = 0;
     while i < 30 {
-        show_case(CASES[i]);
+        show_case(rt, CASES[i])?;
         i += 1;
     }
+    Ok(())
 }
 
 // The two bytes that say how long the second record is, and what is read there then, in so many bytes of the log.
-fn show_length(high: u8, low: u8, size: usize) {
+fn show_length(rt: &impl Print, high: u8, low: u8, size: usize) -> io::Result<()> {
     let mut log = LOG;
     log[35] = high;
     log[36] = low;
     if size <= 69 {
         let part = &log[0..size];
-        show_read(part, 35);
-        show_count(part);
+        show_read(rt, part, 35)?;
+        show_count(rt, part)?;
     }
+    Ok(())
 }
 
-pub(crate) fn show_lengths() {
-    show_length(0, 0, 69);
-    show_length(0, 31, 69);
-    show_length(0, 33, 69);
-    show_length(0x20, 0, 69);
-    show_length(0, 31, 68);
-    show_length(0, 33, 37);
+pub(crate) fn show_lengths(rt: &impl Print) -> io::Result<()> {
+    show_length(rt, 0, 0, 69)?;
+    show_length(rt, 0, 31, 69)?;
+    show_length(rt, 0, 33, 69)?;
+    show_length(rt, 0x20, 0, 69)?;
+    show_length(rt, 0, 31, 68)?;
+    show_length(rt, 0, 33, 37)
 }
 
 fn set(log: &mut [u8], at: usize, byte: u8) {
@@ -122,17 +126,17 @@ fn fill(log: &mut [u8], version: u8) {
     }
 }
 
-fn show_full(log: &[u8]) {
-    show_open(log);
-    show_count(log);
-    show_read(log, 64567);
-    show_read(log, 64601);
+fn show_full(rt: &impl Print, log: &[u8]) -> io::Result<()> {
+    show_open(rt, log)?;
+    show_count(rt, log)?;
+    show_read(rt, log, 64567)?;
+    show_read(rt, log, 64601)
 }
 
 // A log of the greatest length, and one byte longer.
-pub(crate) fn show_longest(version: u8) {
-    let mut log = io::large_buffer();
+pub(crate) fn show_longest(rt: &impl Print, version: u8) -> io::Result<()> {
+    let mut log = [0u8; 65536];
     fill(&mut log, version);
-    show_full(&log[..64601]);
-    show_full(&log[..64602]);
+    show_full(rt, &log[..64601])?;
+    show_full(rt, &log[..64602])
 }

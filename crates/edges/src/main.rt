@@ -7,11 +7,13 @@ mod lines;
 mod logs;
 mod text;
 
-fn main() {
-    logs::show_cases();
-    logs::show_lengths();
-    logs::show_longest(1);
-    logs::show_longest(2);
-    lines::show_lines();
-    lines::show_sheet();
+use std::io;
+
+fn main(rt: HostRuntime) -> io::Result<()> {
+    logs::show_cases(&rt)?;
+    logs::show_lengths(&rt)?;
+    logs::show_longest(&rt, 1)?;
+    logs::show_longest(&rt, 2)?;
+    lines::show_lines(&rt)?;
+    lines::show_sheet(&rt)
 }

@@ -1,20 +1,21 @@
 // Pieces of the printed lines.
+use std::io;
 
-pub(crate) fn number(n: u64) {
-    io::print_decimal(1, n);
+pub(crate) fn number(rt: &impl Print, n: u64) -> io::Result<()> {
+    rt.print(n)
 }
 
-pub(crate) fn space() {
-    io::write_all(1, b" ");
+pub(crate) fn space(rt: &impl Print) -> io::Result<()> {
+    rt.print(" ")
 }
 
-pub(crate) fn new_line() {
-    io::write_all(1, b"\n");
+pub(crate) fn new_line(rt: &impl Print) -> io::Result<()> {
+    rt.print("\n")
 }
 
-pub(crate) fn refused(refusal: u64, value: u64) {
-    io::write_all(1, b"refused ");
-    number(refusal);
-    space();
-    number(value);
+pub(crate) fn refused(rt: &impl Print, refusal: u64, value: u64) -> io::Result<()> {
+    rt.print("refused ")?;
+    number(rt, refusal)?;
+    space(rt)?;
+    number(rt, value)
 }

@@ -1,7 +1,7 @@
--- What reading into lent bytes promises, and what it leaves free. The C library's `read` is taken to answer −1 or at most as many bytes as there
--- are, and nothing is taken of the bytes themselves or of when it answers what. So these are free: which bytes stand before the size; which stand
--- after it, where reads may have changed them too; what the size is; and whether a read failed. A program that reads nothing keeps this promise:
--- that what is read is the input is seen by running.
+-- What reading into lent bytes promises, and what it leaves free. A reader's `read` fails or answers at most as many bytes as there are, as std's
+-- trait `Read` has it, and nothing is taken of the bytes themselves or of when it answers what. So these are free: which bytes stand before the size;
+-- which stand after it, where reads may have changed them too; what the size is; and whether a read failed. A program that reads nothing keeps this
+-- promise: that what is read is the input is seen by running.
 use Rattle.std.specs.Prelude.{◌≡◌, true, List, ℕ, ◌≤◌, ◌<◌, length}
 use Rattle.input.specs.declared.Input.{Input}
 

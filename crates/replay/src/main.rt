@@ -26,6 +26,7 @@ use compared::agrees;
 use input::read_all;
 use records::Record;
 use shown::{new_line, show_case, show_label};
+use std::io;
 
 // The bytes of a block.
 const BLOCK: usize = 128;
@@ -70,44 +71,44 @@ fn counted(mut t: Tally, same: bool) -> Tally {
     t
 }
 
-fn block(mut t: Tally, bytes: &[u8]) -> Tally {
+fn block(rt: &impl Print, mut t: Tally, bytes: &[u8]) -> io::Result<Tally> {
     if t.labelled {
         t.labelled = false;
-        show_case(record_of(bytes));
-        return t;
+        show_case(rt, record_of(bytes))?;
+        return Ok(t);
     }
     let first = byte_at(bytes, 0);
     if 0x20 <= first && first <= 0x7e {
         t.labelled = true;
-        show_label(bytes);
-        return t;
+        show_label(rt, bytes)?;
+        return Ok(t);
     }
-    counted(t, agrees(record_of(bytes)))
+    Ok(counted(t, agrees(record_of(bytes))))
 }
 
-fn blocks(mut t: Tally, bytes: &[u8]) -> Tally {
+fn blocks(rt: &impl Print, mut t: Tally, bytes: &[u8]) -> io::Result<Tally> {
     let mut at = 0;
     while BLOCK <= bytes.len() - at {
         let end = at + BLOCK;
-        t = block(t, &bytes[at..end]);
+        t = block(rt, t, &bytes[at..end])?;
         at = end;
     }
     t.cut = at < bytes.len();
-    t
+    Ok(t)
 }
 
 // Reads as many blocks as there is room for: fewer only at the end of the input, or where a read failed.
-fn step(t: Tally) -> Tally {
-    let mut buf = io::large_buffer();
-    let read = read_all(0, &mut buf);
+fn step<R: io::Read>(rt: &impl Print, reader: &mut R, t: Tally) -> io::Result<Tally> {
+    let mut buf = [0u8; 65536];
+    let read = read_all(reader, &mut buf);
     let size = read.size;
-    let mut after = blocks(t, &buf[..size]);
+    let mut after = blocks(rt, t, &buf[..size])?;
     after.failed = read.failed;
     after.more = size == buf.len();
-    after
+    Ok(after)
 }
 
-fn run() -> Tally {
+fn run<R: io::Read>(rt: &impl Print, reader: &mut R) -> io::Result<Tally> {
     let mut turns = u64::MAX;
     let mut t = Tally {
         seen: 0,
@@ -118,29 +119,29 @@ fn run() -> Tally {
         failed: false,
     };
     while turns > 0 && t.more {
-        t = step(t);
+        t = step(rt, reader, t)?;
         turns -= 1;
     }
-    t
+    Ok(t)
 }
 
-fn show_counts(t: Tally) {
-    io::print_decimal(1, t.seen);
-    io::write_all(1, b" ");
-    io::print_decimal(1, t.differed);
-    new_line();
+fn show_counts(rt: &impl Print, t: Tally) -> io::Result<()> {
+    rt.print(t.seen)?;
+    rt.print(" ")?;
+    rt.print(t.differed)?;
+    new_line(rt)
 }
 
-fn main() {
-    let t = run();
+fn main(rt: HostRuntime) -> io::Result<()> {
+    let t = run(&rt, &mut rt.stdin())?;
     if t.labelled {
-        new_line();
+        new_line(&rt)?;
     }
     if t.failed {
-        io::write_all(2, b"replay: standard input could not be read\n");
+        rt.eprintln("replay: standard input could not be read")
     } else if t.labelled || t.cut {
-        show_counts(counted(t, false));
+        show_counts(&rt, counted(t, false))
     } else {
-        show_counts(t);
+        show_counts(&rt, t)
     }
 }

@@ -4,21 +4,22 @@
 
 use input::read_all;
 use sheet_text::{LISTING_ROOM, write_sheet};
+use std::io;
 
-fn print_sheet(log: &[u8]) {
+fn print_sheet(rt: &impl Print, log: &[u8]) -> io::Result<()> {
     let mut out = [0u8; LISTING_ROOM];
     let size = write_sheet(log, &mut out);
-    io::write_all(1, &out[..size]);
+    rt.write_all(&out[..size])
 }
 
-fn main() {
+fn main(rt: HostRuntime) -> io::Result<()> {
     // A log is at most 64,601 bytes long: 65,536 show that one is longer.
-    let mut log = io::large_buffer();
-    let read = read_all(0, &mut log);
+    let mut log = [0u8; 65536];
+    let read = read_all(&mut rt.stdin(), &mut log);
     if read.failed {
-        io::write_all(2, b"sheet: standard input could not be read\n");
+        rt.eprintln("sheet: standard input could not be read")
     } else {
         let size = read.size;
-        print_sheet(&log[..size]);
+        print_sheet(&rt, &log[..size])
     }
 }
