@@ -11,7 +11,7 @@ const ARCHIVES: [&str; 4] = ["call_exports", "leftover_exports", "line_exports",
 /// Where the repository has the archives for a target, and what builds them. Targets without an operating system are compiled for strict alignment.
 fn of_the_repository(processor: &str, system: &str) -> (&'static str, String) {
     match (processor, system) {
-        ("x86_64", _) => ("../../target/staticlib", ARCHIVES.map(|archive| format!("rt staticlib {archive}")).join(" && ")),
+        ("x86_64", _) => ("../../target/staticlib", format!("tools/build {}", ARCHIVES.join(" "))),
         ("aarch64", "none") => ("../../target/aarch64/strict-align", "embed/aarch64".into()),
         ("aarch64", _) => ("../../target/aarch64", "embed/aarch64".into()),
         (other, _) => stop(format!("there are no archives for {other}: set PSCI_LIB_DIR")),

@@ -1,5 +1,5 @@
-//! Hands the programs `direct` and `bench` the archives that they call: `rt staticlib` wrote them to PSCI_LIB_DIR, or to the repository's
-//! own folder.
+//! Hands the programs `direct` and `bench` the archives that they call: those of PSCI_LIB_DIR, or of the folder that `tools/build` writes
+//! them to.
 fn main() {
     println!("cargo:rerun-if-env-changed=PSCI_LIB_DIR");
     if std::env::var_os("CARGO_FEATURE_RATTLE").is_none() {
