@@ -10,9 +10,9 @@ use lib.ListN.{length, get_or}
 use borrow.Author.Tests.{eq-eqb}
 use Rattle.bits.proofs.SameBits.{bits_mod}
 use Rattle.bits.proofs.Xor.{xor_none, xor_cancel, xor_back, xor_laws}
-use Rattle.answers.specs.Answers.{Answer, accepted, through}
+use Rattle.answers.specs.Answers.{accepted, through}
 use Rattle.answers.proofs.Answering.{same_accepted}
-use Rattle.function_ids.specs.CallTable.{Part, low_half, whole, part_of, Look, nothing, value, zero_or_not, keep, number_in, kept_set}
+use Rattle.function_ids.specs.CallTable.{low_half, whole, part_of, Look, nothing, value, zero_or_not, keep, number_in, kept_set}
 use Rattle.roundtrip.specs.Codec.{Codec, Registers, bit, encode_by, ByTable}
 use Rattle.roundtrip.proofs.Demand3.{small}
 use Rattle.roundtrip.specs.Leftovers.{xor_each, or_else, zeros, BitForBit, ignored_by, leftovers_by, OfSet, OfPair, Leftovers}

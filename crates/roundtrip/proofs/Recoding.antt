@@ -1,6 +1,6 @@
 -- Decoding, then encoding into a lent run, by any codec; what a success leaves is read as the registers were: demand 3, of one run of the program.
 -- Assumes nothing.
-use mathlib.Core.Path.{◌≡◌, refl, sym, ap, ◌∙◌}
+use mathlib.Core.Path.{◌≡◌, sym, ap, ◌∙◌}
 use mathlib.Core.List.{List}
 use Prim.Native.Nat.{ℕ}
 use lib.IntN.{ℤ}

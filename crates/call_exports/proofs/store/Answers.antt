@@ -1,11 +1,8 @@
 -- `call_exports::store` meets its contract: nine words into a run of nine, and nothing into any other.
 -- Assumes nothing.
-use mathlib.Core.Path.{refl}
-use native.Mathlib.Omega.{arith}
 use borrow.Author.Rules.{rules}
-use borrow.Author.Tests.{eq-eqb, ne_eqb}
-use lib.ListN.{length-set}
-use Rattle.bits.proofs.Picks.{if_true, if_false}
+use borrow.Author.Tests.{eq-eqb}
+use Rattle.bits.proofs.Picks.{if_true}
 use Rattle.answers.proofs.Lending.{stored_all}
 use Rattle.call_exports.proofs.store.Goals as goal
 

@@ -1,7 +1,6 @@
 -- `decode::decode` meets its contract: each arm has the number of the function whose row it computes, and the last arm none of them.
 -- Assumes nothing.
 use mathlib.Core.Path.{refl}
-use borrow.Author.Rules.{rules}
 use Rattle.function_ids.specs.declared.FunctionId.TheVariants as id
 use Rattle.decode_definition.proofs.Laws.{unknown_is}
 use Rattle.decode_definition.proofs.Rows.{decoded}

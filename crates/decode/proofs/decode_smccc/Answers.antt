@@ -1,6 +1,5 @@
 -- `decode::decode_smccc` meets its contract: document 01's decoder on the set with r1's low half for memory protect. Assumes nothing.
 use mathlib.Core.Path.{sym, ap, ◌∙◌}
-use borrow.Author.Rules.{rules}
 use Rattle.decode_definition.specs.Decode.{decode_of}
 use Rattle.decode_definition.proofs.TwoDecodings.{by_01}
 use Rattle.decode.proofs.decode_smccc.Goals as goal

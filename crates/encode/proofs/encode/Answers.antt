@@ -1,11 +1,10 @@
 -- `encode::encode` meets its contract: the refusals in their order, and then the writing. Assumes nothing.
 use mathlib.Core.Path.{sym, ap, ◌∙◌}
-use borrow.Author.Rules.{rules}
 use Rattle.answers.specs.Lent.{itself}
 use Rattle.answers.proofs.Lending.{writes_as}
 use Rattle.function_ids.specs.FunctionIds.{function_id_answer}
 use Rattle.encode_definition.specs.Encode.{words_of}
-use Rattle.encode_definition.proofs.Laws.{written_call, wrong_length, no_number, of_parts}
+use Rattle.encode_definition.proofs.Laws.{written_call, no_number, of_parts}
 use Rattle.encode.proofs.encode.Goals as goal
 
 pub returns-in-Err : goal.returns-in-Err

@@ -3,7 +3,6 @@ use mathlib.Core.Path.{refl, sym, ap, ◌∙◌}
 use native.Mathlib.Nat.{div-one}
 use lib.Bits.{bit_and}
 use lib.Dec.{lit<}
-use borrow.Author.Rules.{rules}
 use Rattle.answers.specs.Answers.{accepted}
 use Rattle.words.specs.Mpidrs.{read_mpidr64, fields64}
 use Rattle.bits.proofs.Masks.{none_outside, some_outside}

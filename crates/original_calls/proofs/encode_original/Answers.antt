@@ -1,5 +1,4 @@
 -- `original_calls::encode_original` meets its contract: the three calls by what is written of them, the others by document 01's encoding. Assumes nothing.
-use borrow.Author.Rules.{rules}
 use Rattle.original_calls.specs.OriginalFunctions.{original_id_of}
 use Rattle.original_calls.specs.OriginalCalls.{original_arguments_of}
 use Rattle.original_calls.proofs.EncodeLaws.{by_writing, by_encoding}

@@ -1,12 +1,11 @@
 -- `original_calls::recode_original` meets its contract, the second part by demand 3. Assumes nothing.
-use mathlib.Core.Path.{◌≡◌, sym, ap, ◌∙◌}
+use mathlib.Core.Path.{sym, ap, ◌∙◌}
 use Prim.Native.Nat.{ℕ}
-use native.Mathlib.Omega.{arith}
 use lib.ListN.{get_or}
 use mir.Syntax.{w64}
 use mir.Val.{Fits}
 use borrow.Author.Rules.{rules}
-use Rattle.roundtrip.proofs.Recoding.{encoded, not_decoded, read_again}
+use Rattle.roundtrip.proofs.Recoding.{encoded, read_again}
 use Rattle.original_calls.specs.OriginalFunctions.{original_answer}
 use Rattle.original_calls.specs.OriginalCodec.{original}
 use Rattle.original_calls.proofs.Original.{demand3_of_original}

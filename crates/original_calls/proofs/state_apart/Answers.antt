@@ -1,6 +1,5 @@
 -- `original_calls::state_apart` meets its contract: each arm by the row of its function, and the last one outside of the six numbers. Assumes nothing.
 use mathlib.Core.Path.{refl, sym, ap, ◌∙◌}
-use borrow.Author.Rules.{rules}
 use Rattle.answers.specs.Answers.{Answer}
 use Rattle.function_ids.specs.declared.FunctionId.TheVariants as id
 use Rattle.function_ids.specs.CallTable.{rule_of}

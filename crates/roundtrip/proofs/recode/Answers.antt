@@ -1,8 +1,7 @@
 -- `roundtrip::recode` meets its contract, the second part by demand 3.
 -- Assumes nothing.
-use mathlib.Core.Path.{◌≡◌, sym, ap, ◌∙◌}
+use mathlib.Core.Path.{sym, ap, ◌∙◌}
 use Prim.Native.Nat.{ℕ}
-use native.Mathlib.Omega.{arith}
 use lib.ListN.{get_or}
 use mir.Syntax.{w64}
 use mir.Val.{Fits}
@@ -10,7 +9,7 @@ use borrow.Author.Rules.{rules}
 use Rattle.function.specs.Functions.{function_answer}
 use Rattle.roundtrip.specs.Document01.{document01}
 use Rattle.roundtrip.proofs.TwoCodecs.{demand3_of_01}
-use Rattle.roundtrip.proofs.Recoding.{encoded, not_decoded, read_again}
+use Rattle.roundtrip.proofs.Recoding.{encoded, read_again}
 use Rattle.roundtrip.proofs.recode.Goals as goal
 
 pub returns-in-Ok : goal.returns-in-Ok

@@ -1,7 +1,6 @@
 -- `call_exports::call_asked::call_asked` meets its contract.
 -- Assumes nothing.
 use mathlib.Core.Path.{sym, ap, ◌∙◌}
-use borrow.Author.Rules.{rules}
 use Rattle.call_exports.specs.NineWords.{nine_words}
 use Rattle.call_exports.specs.CallAsked.{call_asked, asked_answer}
 use Rattle.call_exports.proofs.CallAskedLaws.{own_words, other_words, none_found}

@@ -1,7 +1,6 @@
 -- `call_exports::call_asked::call_at` meets its contract.
 -- Assumes nothing.
 use mathlib.Core.Path.{refl}
-use borrow.Author.Rules.{rules}
 use Rattle.call_exports.specs.CallAsked.{call_at}
 use Rattle.call_exports.proofs.CallAskedLaws.{tagged, tag_unknown}
 use Rattle.call_exports.proofs.call_asked.call_at.Goals as goal

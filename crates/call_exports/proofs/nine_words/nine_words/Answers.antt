@@ -1,6 +1,5 @@
 -- `call_exports::nine_words::nine_words` meets its contract.
 -- Assumes nothing.
-use borrow.Author.Rules.{rules}
 use Rattle.call_exports.specs.NineWords.{nine_words}
 use Rattle.call_exports.proofs.nine_words.nine_words.Goals as goal
 

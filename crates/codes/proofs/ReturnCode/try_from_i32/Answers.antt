@@ -5,7 +5,6 @@ use lib.IntN.{ℤ, pos, negsuc, nat_abs}
 use mir.Syntax.{w32}
 use mir.Val.{of_z}
 use mir.Facts.{to_z-of_z}
-use borrow.Author.Rules.{rules}
 use borrow.Author.Tests.{ne_eqb}
 use Rattle.answers.specs.Answers.{through}
 use Rattle.codes.specs.Codes.{read_error_code, read_return_code, error_code_answer}

@@ -1,6 +1,5 @@
 -- `encode::arguments::argument_words` meets its contract.
 -- Assumes nothing.
-use borrow.Author.Rules.{rules}
 use Rattle.answers.proofs.Answering.{through_twice}
 use Rattle.encode_definition.specs.Arguments.{arguments_of}
 use Rattle.encode.proofs.arguments.argument_words.Goals as goal

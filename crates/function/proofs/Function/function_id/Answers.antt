@@ -1,6 +1,5 @@
 -- `function::Function::function_id` meets its contract.
 -- Assumes nothing.
-use borrow.Author.Rules.{rules}
 use Rattle.function.specs.Functions.{function_id_of}
 use Rattle.function.proofs.Function.function_id.Goals as goal
 

@@ -1,5 +1,4 @@
 -- `Function::named_cores` meets its contract. Assumes nothing.
-use borrow.Author.Rules.{rules}
 use Rattle.function.specs.NamedCores.{named_cores}
 use Rattle.function.proofs.Function.named_cores.Goals as goal
 

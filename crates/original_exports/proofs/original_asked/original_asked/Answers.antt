@@ -1,6 +1,5 @@
 -- `original_exports::original_asked::original_asked` meets its contract. Assumes nothing.
 use mathlib.Core.Path.{sym, ap, ◌∙◌}
-use borrow.Author.Rules.{rules}
 use Rattle.call_exports.proofs.CallAskedLaws.{own_words, other_words, none_found}
 use Rattle.original_exports.specs.OriginalNineWords.{original_nine_words}
 use Rattle.original_exports.specs.OriginalAsked.{original_asked, original_asked_answer}

@@ -1,6 +1,5 @@
 -- `original_exports::original_asked::original_at` meets its contract. Assumes nothing.
 use mathlib.Core.Path.{sym, ap, ◌∙◌}
-use borrow.Author.Rules.{rules}
 use Rattle.call_exports.specs.CallAsked.{asked_answer}
 use Rattle.original_exports.proofs.OriginalAskedLaws.{suspend_at, other_at, none_at}
 use Rattle.original_exports.proofs.original_asked.original_at.Goals as goal

@@ -1,5 +1,4 @@
 -- `original_exports::original_nine_words::original_nine_words` meets its contract. Assumes nothing.
-use borrow.Author.Rules.{rules}
 use Rattle.call_exports.specs.NineWords.{nine_words}
 use Rattle.original_exports.specs.OriginalNineWords.{original_nine_words}
 use Rattle.original_exports.proofs.original_nine_words.original_nine_words.Goals as goal

@@ -1,5 +1,4 @@
 -- `original_calls::original_function::OriginalFunction::function_id` meets its contract. Assumes nothing.
-use borrow.Author.Rules.{rules}
 use Rattle.original_calls.specs.OriginalFunctions.{original_id_of}
 use Rattle.original_calls.proofs.original_function.OriginalFunction.function_id.Goals as goal
 

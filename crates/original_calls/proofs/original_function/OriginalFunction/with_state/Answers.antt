@@ -1,5 +1,4 @@
 -- `original_calls::original_function::OriginalFunction::with_state` meets its contract. Assumes nothing.
-use borrow.Author.Rules.{rules}
 use Rattle.original_calls.specs.OriginalFunctions.{with_state}
 use Rattle.original_calls.proofs.original_function.OriginalFunction.with_state.Goals as goal
 

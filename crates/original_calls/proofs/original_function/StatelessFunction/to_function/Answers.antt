@@ -1,5 +1,4 @@
 -- `original_calls::original_function::StatelessFunction::to_function` meets its contract. Assumes nothing.
-use borrow.Author.Rules.{rules}
 use Rattle.original_calls.specs.OriginalFunctions.{function_of}
 use Rattle.original_calls.proofs.original_function.StatelessFunction.to_function.Goals as goal
 

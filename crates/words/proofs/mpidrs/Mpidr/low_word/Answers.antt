@@ -4,7 +4,6 @@ use mathlib.Core.List.{[], ◌∷◌}
 use Prim.Native.Nat.{ℕ, ◌*◌, ◌%◌, ◌<◌}
 use native.Mathlib.Omega.{arith}
 use lib.Bits.{bit_or}
-use borrow.Author.Rules.{rules}
 use Rattle.bits.specs.Bits.{put}
 use Rattle.words.specs.Mpidrs.{fields32}
 use Rattle.bits.proofs.Masks.{or_low}

@@ -2,7 +2,6 @@
 use mathlib.Core.Path.{ap}
 use Prim.Native.Nat.{ℕ, ◌*◌, ◌%◌}
 use native.Mathlib.Omega.{arith}
-use borrow.Author.Rules.{rules}
 use Rattle.words.specs.Mpidrs.{write_mpidr64, aff3_number}
 use Rattle.bits.proofs.Masks.{or_low}
 use Rattle.words.proofs.mpidrs.Mpidr.to_u64.Goals as goal

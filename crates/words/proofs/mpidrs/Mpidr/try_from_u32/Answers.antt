@@ -2,7 +2,6 @@
 use mathlib.Core.Path.{refl, ap, ◌∙◌}
 use native.Mathlib.Nat.{div-one}
 use lib.Dec.{lit<}
-use borrow.Author.Rules.{rules}
 use Rattle.answers.specs.Answers.{accepted}
 use Rattle.words.specs.Mpidrs.{read_mpidr32, fields32}
 use Rattle.bits.proofs.Masks.{none_outside, some_outside}

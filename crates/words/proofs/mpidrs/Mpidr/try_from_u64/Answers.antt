@@ -1,7 +1,6 @@
 -- `Mpidr::try_from_u64` meets its contract: the masks of the halves are the two halves of the mask of the register. Assumes nothing.
 use mathlib.Core.Path.{refl, ap, ◌∙◌}
 use native.Mathlib.Omega.{arith}
-use borrow.Author.Rules.{rules}
 use Rattle.bits.specs.Halves.{register_of}
 use Rattle.answers.specs.Answers.{accepted}
 use Rattle.words.specs.Mpidrs.{read_mpidr64, mpidr64}

@@ -2,11 +2,10 @@
 use mathlib.Core.Path.{◌≡◌, refl, ap}
 use mathlib.Core.Bool.{not}
 use mathlib.Core.List.{[], ◌∷◌}
-use Prim.Native.Nat.{ℕ, zero, suc, ◌*◌, ◌/◌, ◌<◌, ◌^◌}
+use Prim.Native.Nat.{ℕ, zero, suc, ◌*◌, ◌/◌, ◌<◌}
 use native.Mathlib.Omega.{arith}
 use lib.Bits.{bit_and}
 use lib.Dec.{lit<, eqb}
-use borrow.Author.Rules.{rules}
 use Rattle.answers.specs.Answers.{accepted}
 use Rattle.bits.specs.Bits.{bits}
 use Rattle.words.specs.OriginalPowerStates.{read_original_power_state, original_power_state_of, original_power_state_fields, state_id_field, power_down_field, level_field}

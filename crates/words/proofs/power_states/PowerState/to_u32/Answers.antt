@@ -1,6 +1,5 @@
 -- `PowerState::to_u32` meets its contract. Assumes nothing.
 use mathlib.Core.Path.{◌∙◌, sym, ap}
-use borrow.Author.Rules.{rules}
 use Rattle.words.specs.PowerStates.{write_power_state}
 use Rattle.words.proofs.power_states.PowerState.to_u32.Goals as goal
 

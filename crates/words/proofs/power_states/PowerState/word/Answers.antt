@@ -1,16 +1,16 @@
 -- `PowerState::word` meets its contract. Assumes nothing.
-use mathlib.Core.Path.{◌≡◌, refl, ap}
+use mathlib.Core.Path.{◌≡◌, ap}
 use mathlib.Core.List.{[], ◌∷◌}
 use Prim.Native.Nat.{ℕ, ◌/◌, ◌%◌, ◌^◌, ◌<◌}
 use native.Mathlib.Omega.{arith}
 use lib.Bits.{bit_or}
 use lib.Dec.{lit<}
-use borrow.Author.Tests.{le-leb, lt-leb}
+use borrow.Author.Tests.{le-leb}
 use Rattle.answers.specs.Answers.{accepted}
 use Rattle.bits.specs.Bits.{◌for◌, put}
 use Rattle.words.specs.PowerStates.{power_state_fields}
 use Rattle.bits.proofs.Masks.{outside, or_low}
-use Rattle.bits.proofs.Picks.{if_true, if_false}
+use Rattle.bits.proofs.Picks.{if_true}
 use Rattle.words.proofs.power_states.PowerState.word.Goals as goal
 
 in_place : (bit id : ℕ) → bit % 2 ^ 30 ≡ 0 → id < 2 ^ 28 → bit_or bit id ≡ put power_state_fields (id ∷ bit / 2 ^ 30 ∷ [])

@@ -1,6 +1,5 @@
 -- `PsciFeature::try_from_u32` meets its contract. Assumes nothing.
 use mathlib.Core.Path.{◌∙◌, refl, sym, ap}
-use borrow.Author.Rules.{rules}
 use borrow.Author.Tests.{eq-eqb, ne_eqb}
 use Rattle.answers.specs.Answers.{through}
 use Rattle.function_ids.specs.FunctionIds.{function_id_answer}

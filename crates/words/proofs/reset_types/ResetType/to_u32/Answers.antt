@@ -5,7 +5,6 @@ use Prim.Native.Nat.{ℕ, ◌+◌, ◌%◌, ◌<◌, ◌^◌}
 use native.Mathlib.Omega.{arith}
 use lib.Bits.{bit_and, bit_or, or_add_and}
 use lib.Dec.{lit<}
-use borrow.Author.Rules.{rules}
 use Rattle.bits.specs.Bits.{◌for◌, put}
 use Rattle.bits.proofs.Masks.{masked, outside}
 use Rattle.answers.specs.Answers.{accepted}

@@ -3,7 +3,6 @@ use mathlib.Core.Path.{refl, ap₂}
 use Prim.Native.Nat.{ℕ}
 use native.Mathlib.Omega.{arith}
 use lib.Dec.{lit<}
-use borrow.Author.Rules.{rules}
 use Rattle.answers.specs.Answers.{accepted}
 use Rattle.words.specs.Versions.{read_version, version_fields, version_of}
 use Rattle.bits.proofs.Masks.{outside, none_outside, some_outside}
