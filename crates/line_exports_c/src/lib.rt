@@ -3,7 +3,6 @@
 
 ghost use Rattle.answers.specs.Lent.{Writes};
 ghost use Rattle.record_line.specs.Line.{line_of};
-ghost use Rattle.record_line.specs.declared.Listing.TheVariants.{Sheet};
 ghost use Rattle.line_exports.specs.Exports.{told_line};
 
 use line_exports::Written;
@@ -11,7 +10,7 @@ use line_exports::Written;
 // Writes the line of a record at the front of the lent bytes.
 #[unsafe(no_mangle)]
 pub extern "C" fn psci_line(number: usize, regs: &[u64; 4], out: &mut [u8; 80]) -> Written
-    ensures writes { Writes told_line (line_of Sheet number regs.now out.old) out.old result out.new }
+    ensures writes { Writes told_line (line_of number regs.now out.old) out.old result out.new }
 {
     line_exports::psci_line(number, regs, out)
 }
