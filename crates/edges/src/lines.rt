@@ -3,7 +3,7 @@ use crate::example::LOG;
 use crate::text::{new_line, number, refused};
 use call_log::records;
 use record_line::LineResult;
-use sheet_text::{LISTING_ROOM, write_sheet};
+use sheet_text::{SHEET_ROOM, write_sheet};
 use std::io;
 
 fn show_answer(rt: &impl Print, answer: LineResult) -> io::Result<()> {
@@ -70,7 +70,7 @@ fn show_protect(rt: &impl Print) -> io::Result<()> {
 // The example's sheet, exactly as long as the length that it was given.
 pub(crate) fn show_sheet(rt: &impl Print) -> io::Result<()> {
     let log = LOG;
-    let mut out = [b'.'; LISTING_ROOM];
+    let mut out = [b'.'; SHEET_ROOM];
     let size = write_sheet(&log, &mut out);
     rt.write_all(&out[..size])
 }

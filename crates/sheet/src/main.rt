@@ -3,11 +3,11 @@
 #![tactic(auto)]
 
 use input::read_all;
-use sheet_text::{LISTING_ROOM, write_sheet};
+use sheet_text::{SHEET_ROOM, write_sheet};
 use std::io;
 
 fn print_sheet(rt: &impl Print, log: &[u8]) -> io::Result<()> {
-    let mut out = [0u8; LISTING_ROOM];
+    let mut out = [0u8; SHEET_ROOM];
     let size = write_sheet(log, &mut out);
     rt.write_all(&out[..size])
 }
