@@ -1,5 +1,5 @@
 // The edges of the log and its reader.
-use crate::answers::{show_count, show_open, show_part, show_read, show_second};
+use crate::answered::{show_count, show_open, show_part, show_read, show_second};
 use crate::example::LOG;
 use std::io;
 

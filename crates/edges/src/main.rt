@@ -1,7 +1,7 @@
 // The edges of document 01's log, its reader, the line and the sheet, run. What they must give is written out in tools/expected-edges.
 #![tactic(auto)]
 
-mod answers;
+mod answered;
 mod example;
 mod lines;
 mod logs;
