@@ -57,8 +57,7 @@ pub fn told_words(answer: EncodeResult) -> Refusal
 }
 
 // The nine words of the call that four registers make. Refused with decode's numbers, 1 to 8; the lent words are then as they were.
-#[unsafe(no_mangle)]
-pub extern "C" fn psci_decode(regs: &[u64; 4], out: &mut [u64; 9]) -> Refusal
+pub fn psci_decode(regs: &[u64; 4], out: &mut [u64; 9]) -> Refusal
     ensures writes { Writes refusal_in (through nine_words (decode_of regs.now)) out.old result out.new }
 {
     let r = *regs;
@@ -73,8 +72,7 @@ pub extern "C" fn psci_decode(regs: &[u64; 4], out: &mut [u64; 9]) -> Refusal
 
 // The same by Change 2's decoder: memory protect looks at the low half of r1. Refused as `psci_decode` refuses. It has the steps of
 // `decode_smccc` itself: the compiler copies an answer that comes through two functions (docs/BENCHMARKS.md).
-#[unsafe(no_mangle)]
-pub extern "C" fn psci_decode_smccc(regs: &[u64; 4], out: &mut [u64; 9]) -> Refusal
+pub fn psci_decode_smccc(regs: &[u64; 4], out: &mut [u64; 9]) -> Refusal
     ensures writes { Writes refusal_in (through nine_words (decode_smccc regs.now)) out.old result out.new }
 {
     let r = *regs;
@@ -89,8 +87,7 @@ pub extern "C" fn psci_decode_smccc(regs: &[u64; 4], out: &mut [u64; 9]) -> Refu
 
 // The four words of the call that nine words stand for. Refused with `UNKNOWN_TAG` or `WRONG_PART` where they stand for none, then with encode's 14, 15
 // or 31; the lent words are then as they were.
-#[unsafe(no_mangle)]
-pub extern "C" fn psci_encode(call: &[u64; 9], out: &mut [u64; 4]) -> Refusal
+pub fn psci_encode(call: &[u64; 9], out: &mut [u64; 4]) -> Refusal
     ensures writes { Writes refusal_in (encode_words call.now out.old) out.old result out.new }
 {
     let c = *call;
@@ -108,8 +105,7 @@ pub extern "C" fn psci_encode(call: &[u64; 9], out: &mut [u64; 4]) -> Refusal
 }
 
 // Decodes four registers and encodes the call. Refused with decode's numbers, 1 to 8, and with no other; the lent words are then as they were.
-#[unsafe(no_mangle)]
-pub extern "C" fn psci_recode(regs: &[u64; 4], out: &mut [u64; 4]) -> Refusal
+pub fn psci_recode(regs: &[u64; 4], out: &mut [u64; 4]) -> Refusal
     ensures writes { Writes refusal_in (recode_of regs.now out.old) out.old result out.new }
 {
     let r = *regs;
@@ -117,8 +113,7 @@ pub extern "C" fn psci_recode(regs: &[u64; 4], out: &mut [u64; 4]) -> Refusal
 }
 
 // The same by Change 2's decoder: memory protect is written by the low half of r1. Refused as `psci_recode` refuses.
-#[unsafe(no_mangle)]
-pub extern "C" fn psci_recode_smccc(regs: &[u64; 4], out: &mut [u64; 4]) -> Refusal
+pub fn psci_recode_smccc(regs: &[u64; 4], out: &mut [u64; 4]) -> Refusal
     ensures writes { Writes refusal_in (recode_smccc regs.now out.old) out.old result out.new }
 {
     let r = *regs;

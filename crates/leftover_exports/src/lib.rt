@@ -24,8 +24,7 @@ use roundtrip::leftovers::{encode_with_leftovers, words_of, xor_each};
 
 // The nine words of the call that four registers make, and the four leftover words: each register exclusive-or the word that encode writes. Refused with
 // decode's numbers, 1 to 8; all lent words are then as they were.
-#[unsafe(no_mangle)]
-pub extern "C" fn psci_decode_with_leftovers(
+pub fn psci_decode_with_leftovers(
     regs: &[u64; 4],
     call: &mut [u64; 9],
     leftovers: &mut [u64; 4],
@@ -38,8 +37,7 @@ pub extern "C" fn psci_decode_with_leftovers(
 }
 
 // The same by Change 2's decoder: memory protect looks at the low half of r1. Refused as `psci_decode_with_leftovers` refuses.
-#[unsafe(no_mangle)]
-pub extern "C" fn psci_decode_smccc_with_leftovers(
+pub fn psci_decode_smccc_with_leftovers(
     regs: &[u64; 4],
     call: &mut [u64; 9],
     leftovers: &mut [u64; 4],
@@ -53,8 +51,7 @@ pub extern "C" fn psci_decode_smccc_with_leftovers(
 
 // The four words of the call that nine words stand for, each exclusive-or its leftover. Refused with `UNKNOWN_TAG` or `WRONG_PART` where they stand for
 // none, then with encode's 14, 15 or 31; the lent words are then as they were.
-#[unsafe(no_mangle)]
-pub extern "C" fn psci_encode_with_leftovers(
+pub fn psci_encode_with_leftovers(
     call: &[u64; 9],
     leftovers: &[u64; 4],
     out: &mut [u64; 4],

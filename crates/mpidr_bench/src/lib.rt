@@ -79,8 +79,7 @@ fn told(answer: MpidrResult, out: &mut [u64; 4]) -> Refusal
 }
 
 // The codec's reader, by the halves of the register: affinities 0 to 3. Refused with 4; the lent words are then as they were.
-#[unsafe(no_mangle)]
-pub extern "C" fn bench_mpidr_halves(register: &[u64; 1], out: &mut [u64; 4]) -> Refusal
+pub fn bench_mpidr_halves(register: &[u64; 1], out: &mut [u64; 4]) -> Refusal
     ensures writes { Writes refusal_in (through affinity_words (read_mpidr64 (get_or register.now 0 0))) out.old result out.new }
 {
     let r = *register;
@@ -88,8 +87,7 @@ pub extern "C" fn bench_mpidr_halves(register: &[u64; 1], out: &mut [u64; 4]) ->
 }
 
 // The reader of the whole register, with the same answers.
-#[unsafe(no_mangle)]
-pub extern "C" fn bench_mpidr_whole(register: &[u64; 1], out: &mut [u64; 4]) -> Refusal
+pub fn bench_mpidr_whole(register: &[u64; 1], out: &mut [u64; 4]) -> Refusal
     ensures writes { Writes refusal_in (through affinity_words (read_mpidr64 (get_or register.now 0 0))) out.old result out.new }
 {
     let r = *register;

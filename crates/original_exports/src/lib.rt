@@ -22,8 +22,7 @@ use call_exports::{store, told_words};
 use original_calls::{OriginalFunctionResult, decode_original, encode_original, recode_original};
 
 // The nine words of the call that four registers make. Refused with decode's numbers, 1, 3 to 8 and 26; the lent words are then as they were.
-#[unsafe(no_mangle)]
-pub extern "C" fn psci_decode_original(regs: &[u64; 4], out: &mut [u64; 9]) -> Refusal
+pub fn psci_decode_original(regs: &[u64; 4], out: &mut [u64; 9]) -> Refusal
     ensures writes { Writes refusal_in (through original_nine_words (original_decode_of regs.now)) out.old result out.new }
 {
     let r = *regs;
@@ -38,8 +37,7 @@ pub extern "C" fn psci_decode_original(regs: &[u64; 4], out: &mut [u64; 9]) -> R
 
 // The four words of the call that nine words stand for. Refused with `UNKNOWN_TAG` or `WRONG_PART` where they stand for none, then with encode's 14, 27
 // or 31; the lent words are then as they were.
-#[unsafe(no_mangle)]
-pub extern "C" fn psci_encode_original(call: &[u64; 9], out: &mut [u64; 4]) -> Refusal
+pub fn psci_encode_original(call: &[u64; 9], out: &mut [u64; 4]) -> Refusal
     ensures writes { Writes refusal_in (encode_original_words call.now out.old) out.old result out.new }
 {
     let c = *call;
@@ -58,8 +56,7 @@ pub extern "C" fn psci_encode_original(call: &[u64; 9], out: &mut [u64; 4]) -> R
 
 // Decodes four registers and encodes the call. Refused with decode's numbers, 1, 3 to 8 and 26, and with no other; the lent words are then as they
 // were.
-#[unsafe(no_mangle)]
-pub extern "C" fn psci_recode_original(regs: &[u64; 4], out: &mut [u64; 4]) -> Refusal
+pub fn psci_recode_original(regs: &[u64; 4], out: &mut [u64; 4]) -> Refusal
     ensures writes { Writes refusal_in (recode_original regs.now out.old) out.old result out.new }
 {
     let r = *regs;
