@@ -49,6 +49,7 @@ impl ErrorCode {
     }
 
     // The code of a signed number from −9 to −1; any other is refused with 9, and carried.
+    #[tactic(auto, using(bits::proofs::TwosComplement::number_is), unfolding(crate::specs::Codes::read_error_code))]
     pub fn try_from_i32(value: i32) -> ErrorCodeResult
         ensures { error_code_answer result ≡ read_error_code value }
     {
@@ -135,6 +136,7 @@ pub enum ReturnCodeResult {
 
 impl ReturnCode {
     // Success of 0, the error of a number from −9 to −1; any other is refused with 9, and carried.
+    #[tactic(auto, using(bits::proofs::TwosComplement::number_is), unfolding(crate::specs::Codes::read_return_code))]
     pub fn try_from_i32(value: i32) -> ReturnCodeResult
         ensures { return_code_answer result ≡ read_return_code value }
     {

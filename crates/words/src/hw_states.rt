@@ -20,6 +20,7 @@ pub enum HwStateResult {
 
 impl HwState {
     // The state of 0, 1 or 2; any other word is refused with 12, and carried.
+    #[tactic(auto, unfolding(crate::specs::HwStates::read_hw_state))]
     pub fn try_from_u32(value: u32) -> HwStateResult
         ensures { hw_state_answer result ≡ read_hw_state value }
     {

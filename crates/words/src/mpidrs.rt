@@ -143,6 +143,7 @@ impl Mpidr {
     }
 
     // The word of 32 bits. Affinity 3 present and not 0 is refused with 13, and carried; present and 0 it is left out.
+    #[tactic(auto, unfolding(crate::specs::Mpidrs::write_mpidr32))]
     pub fn to_u32(self) -> WordResult
         ensures { word_answer result ≡ write_mpidr32 self }
     {

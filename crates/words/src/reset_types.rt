@@ -20,6 +20,7 @@ pub enum ArchitecturalResetTypeResult {
 
 impl ArchitecturalResetType {
     // The type of 0; any other word is refused with 7, and carried.
+    #[tactic(auto, unfolding(crate::specs::ResetTypes::read_architectural_reset_type))]
     pub fn try_from_u32(value: u32) -> ArchitecturalResetTypeResult
         ensures { architectural_answer result ≡ read_architectural_reset_type value }
     {

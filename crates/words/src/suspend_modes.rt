@@ -19,6 +19,7 @@ pub enum SuspendModeResult {
 
 impl SuspendMode {
     // The mode of 0 or 1; any other word is refused with 8, and carried.
+    #[tactic(auto, unfolding(crate::specs::SuspendModes::read_suspend_mode))]
     pub fn try_from_u32(value: u32) -> SuspendModeResult
         ensures { suspend_mode_answer result ≡ read_suspend_mode value }
     {

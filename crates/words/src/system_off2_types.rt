@@ -18,6 +18,7 @@ pub enum SystemOff2TypeResult {
 
 impl SystemOff2Type {
     // The type of 1; any other word is refused with 6, and carried.
+    #[tactic(auto, unfolding(crate::specs::SystemOff2Types::read_system_off2_type))]
     pub fn try_from_u32(value: u32) -> SystemOff2TypeResult
         ensures { system_off2_answer result ≡ read_system_off2_type value }
     {
