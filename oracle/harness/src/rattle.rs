@@ -1,5 +1,5 @@
-//! The exported functions of the crates `call_exports`, `original_exports` and `line_exports`; of `leftover_exports`, which the program `direct` alone
-//! links; and of `mpidr_bench`, which `bench` alone links.
+//! The functions of the archives `call_exports`, `original_exports` and `line_exports`; of `leftover_exports`, which the program `direct` alone links;
+//! and of `mpidr_bench`, which `bench` alone links.
 //! Nothing checks these declarations against the Rattle source but the comparison itself.
 use crate::line::Written;
 
