@@ -33,6 +33,7 @@ fn is_set(part: u64) -> bool
 }
 
 // The call of a tag, its parts cut to their slots. A tag above 21 is unknown.
+#[tactic(auto, unfolding(crate::specs::CallAsked::call_at))]
 pub fn call_at(c: [u64; 9]) -> Asked
     ensures { asked_answer result ≡ call_at c (get_or c 0 0) }
 {

@@ -10,6 +10,7 @@ use function::Function;
 use words::flag_word;
 
 // The words of a call: its tag, the parts of its fields in their order, then zeros. Every call has them.
+#[tactic(auto, unfolding(crate::specs::NineWords::nine_words))]
 pub fn nine_words(function: Function) -> [u64; 9]
     ensures { result ≡ nine_words function }
 {

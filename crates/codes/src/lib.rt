@@ -76,6 +76,7 @@ impl ErrorCode {
     }
 
     // The same of a word of 64 bits; a number that does not fit 32 bits is refused with 10 first, and carried.
+    #[tactic(auto, unfolding(crate::specs::Codes::read_error_code64))]
     pub fn try_from_u64(value: u64) -> ErrorCodeResult
         ensures { error_code_answer result ≡ read_error_code64 (signed 64 value) }
     {

@@ -26,6 +26,7 @@ pub enum ArgumentsResult {
 
 // The fields of a call in their registers, zero elsewhere. A state ID above 0x0fffffff is refused with 15, a vendor type above 0x7fffffff with 31;
 // a level is not checked.
+#[tactic(auto, unfolding(encode_definition::specs::Arguments::arguments_of))]
 pub fn argument_words(function: Function) -> ArgumentsResult
     ensures { arguments_answer result ≡ arguments_of function }
 {

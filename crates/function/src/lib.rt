@@ -93,6 +93,7 @@ pub enum FunctionResult {
 impl Function {
     // The function number, in the form that the call follows. A CPU on whose MPIDR and entry differ in form is refused with 14; nothing else
     // is refused.
+    #[tactic(auto, unfolding(crate::specs::Functions::function_id_of))]
     pub fn function_id(self) -> FunctionIdResult
         ensures { function_id_answer result ≡ function_id_of self }
     {

@@ -15,6 +15,7 @@ pub enum NamedCores {
 
 impl Function {
     // The cores of the call's MPIDR, at level 0 except in affinity info; nobody if it has none. Node hardware state counts as level 0.
+    #[tactic(auto, unfolding(crate::specs::NamedCores::named_cores))]
     pub fn named_cores(self) -> NamedCores
         ensures { result ≡ named_cores self }
     {

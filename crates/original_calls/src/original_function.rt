@@ -94,6 +94,7 @@ pub enum OriginalFunctionResult {
 
 impl StatelessFunction {
     // The same call among document 01's. Every call has one.
+    #[tactic(auto, unfolding(crate::specs::OriginalFunctions::function_of))]
     pub fn to_function(self) -> Function
         ensures { result ≡ function_of self }
     {
@@ -138,6 +139,7 @@ impl StatelessFunction {
 
 impl OriginalFunction {
     // A call of document 01's with this power state in the place of its own; a call that has none as it is. Every call has an answer.
+    #[tactic(auto, unfolding(crate::specs::OriginalFunctions::with_state))]
     pub fn with_state(function: Function, state: OriginalPowerState) -> OriginalFunction
         ensures { result ≡ with_state function state }
     {
@@ -211,6 +213,7 @@ impl OriginalFunction {
 
     // The function number, in the form that the call follows. A CPU on whose MPIDR and entry differ in form is refused with 14; nothing else
     // is refused.
+    #[tactic(auto, unfolding(crate::specs::OriginalFunctions::original_id_of))]
     pub fn function_id(self) -> FunctionIdResult
         ensures { function_id_answer result ≡ original_id_of self }
     {

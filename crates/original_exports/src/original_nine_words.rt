@@ -8,6 +8,7 @@ use original_calls::OriginalFunction;
 use words::flag_word;
 
 // The words of a call: its tag, the parts of its fields in their order, then zeros. Every call has them.
+#[tactic(auto, unfolding(call_exports::specs::NineWords::nine_words, crate::specs::OriginalNineWords::original_nine_words))]
 pub fn original_nine_words(function: OriginalFunction) -> [u64; 9]
     ensures { result ≡ original_nine_words function }
 {

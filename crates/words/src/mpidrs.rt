@@ -107,6 +107,7 @@ impl Mpidr {
     }
 
     // The MPIDR of a 32-bit word, without affinity 3. A word with a bit of 24–31 is refused with 3, and carried.
+    #[tactic(auto, unfolding(crate::specs::Mpidrs::read_mpidr32))]
     pub fn try_from_u32(value: u32) -> MpidrResult
         ensures { mpidr_answer result ≡ read_mpidr32 value }
     {
@@ -122,6 +123,7 @@ impl Mpidr {
     }
 
     // The MPIDR of a 64-bit word, with affinity 3. A word with a bit of 24–31 or 40–63 is refused with 4, and carried.
+    #[tactic(auto, using(crate::proofs::MpidrHalves::mbz_halves, crate::proofs::MpidrHalves::no_mbz_bit, crate::proofs::MpidrHalves::mbz_bit), unfolding(crate::specs::Mpidrs::read_mpidr64))]
     pub fn try_from_u64(value: u64) -> MpidrResult
         ensures { mpidr_answer result ≡ read_mpidr64 value }
     {
@@ -161,6 +163,7 @@ impl Mpidr {
     }
 
     // The word of 64 bits, with 0 for an absent affinity 3.
+    #[tactic(auto, unfolding(crate::specs::Mpidrs::write_mpidr64))]
     pub fn to_u64(self) -> u64
         ensures { result ≡ write_mpidr64 self }
     {

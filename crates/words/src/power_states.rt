@@ -54,6 +54,7 @@ impl PowerState {
     }
 
     // The state's word. A state ID above 0x0fffffff is refused with 15, and carried.
+    #[tactic(auto, unfolding(crate::specs::PowerStates::write_power_state))]
     pub fn to_u32(self) -> WordResult
         ensures { word_answer result ≡ write_power_state self }
     {

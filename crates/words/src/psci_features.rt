@@ -22,6 +22,7 @@ impl PsciFeature {
     const SMCCC_VERSION: u32 = 0x8000_0000;
 
     // The SMCCC version of 0x80000000, the function of one of the 35 numbers; any other word is refused with 1, and carried.
+    #[tactic(auto, unfolding(crate::specs::PsciFeatures::read_feature))]
     pub fn try_from_u32(value: u32) -> PsciFeatureResult
         ensures { feature_answer result ≡ read_feature value }
     {

@@ -58,6 +58,7 @@ impl ResetType {
     const VENDOR_SPECIFIC_BIT: u32 = 0x8000_0000;
 
     // With bit 31 set the vendor type of the other bits, otherwise the architectural type; where that is refused so is this, with 7.
+    #[tactic(auto, unfolding(crate::specs::ResetTypes::read_reset_type))]
     pub fn try_from_u32(value: u32) -> ResetTypeResult
         ensures { reset_type_answer result ≡ read_reset_type value }
     {
@@ -72,6 +73,7 @@ impl ResetType {
 
     // The type's word: bit 31 marks a vendor type. A vendor type above 0x7fffffff, which has no room beside that bit, is refused with 31, and
     // carried.
+    #[tactic(auto, unfolding(crate::specs::ResetTypes::write_reset_type))]
     pub fn to_u32(self) -> WordResult
         ensures { word_answer result ≡ write_reset_type self }
     {

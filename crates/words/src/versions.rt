@@ -25,6 +25,7 @@ impl Version {
     const MAJOR_MBZ_BITS: u16 = 0x8000;
 
     // The version of a word: major in bits 16–30, minor in bits 0–15. A word with bit 31 is refused with 11, and carried.
+    #[tactic(auto, unfolding(crate::specs::Versions::read_version))]
     pub fn try_from_u32(value: u32) -> VersionResult
         ensures { version_answer result ≡ read_version value }
     {
@@ -39,6 +40,7 @@ impl Version {
     }
 
     // The version's word. A major above 0x7fff is refused with 16, and carried.
+    #[tactic(auto, unfolding(crate::specs::Versions::write_version))]
     pub fn to_u32(self) -> WordResult
         ensures { word_answer result ≡ write_version self }
     {
