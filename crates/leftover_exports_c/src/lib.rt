@@ -13,7 +13,8 @@ ghost use Rattle.leftover_exports.specs.Exports.{encode_words_with};
 
 use answers::told::Refusal;
 
-// The nine words of the call that four registers make, and the four leftover words.
+// The nine words of the call that four registers make, and the four leftover words: each register exclusive-or the word that encode writes. Refused with
+// decode's numbers, 1 to 8; all lent words are then as they were.
 #[unsafe(no_mangle)]
 pub extern "C" fn psci_decode_with_leftovers(
     regs: &[u64; 4],
@@ -26,7 +27,7 @@ pub extern "C" fn psci_decode_with_leftovers(
     leftover_exports::psci_decode_with_leftovers(regs, call, leftovers)
 }
 
-// The same by Change 2's decoder.
+// The same by Change 2's decoder: memory protect looks at the low half of r1. Refused as `psci_decode_with_leftovers` refuses.
 #[unsafe(no_mangle)]
 pub extern "C" fn psci_decode_smccc_with_leftovers(
     regs: &[u64; 4],
@@ -39,7 +40,8 @@ pub extern "C" fn psci_decode_smccc_with_leftovers(
     leftover_exports::psci_decode_smccc_with_leftovers(regs, call, leftovers)
 }
 
-// The four words of the call that nine words stand for, each exclusive-or its leftover.
+// The four words of the call that nine words stand for, each exclusive-or its leftover. Refused with 1002 or 1003 where they stand for none, then with
+// encode's 14, 15 or 31; the lent words are then as they were.
 #[unsafe(no_mangle)]
 pub extern "C" fn psci_encode_with_leftovers(
     call: &[u64; 9],

@@ -12,7 +12,7 @@ ghost use Rattle.original_exports.specs.OriginalAsked.{encode_original_words};
 
 use answers::told::Refusal;
 
-// The nine words of the call that four registers make.
+// The nine words of the call that four registers make. Refused with decode's numbers, 1, 3 to 8 and 26; the lent words are then as they were.
 #[unsafe(no_mangle)]
 pub extern "C" fn psci_decode_original(regs: &[u64; 4], out: &mut [u64; 9]) -> Refusal
     ensures writes { Writes refusal_in (through original_nine_words (original_decode_of regs.now)) out.old result out.new }
@@ -20,7 +20,8 @@ pub extern "C" fn psci_decode_original(regs: &[u64; 4], out: &mut [u64; 9]) -> R
     original_exports::psci_decode_original(regs, out)
 }
 
-// The four words of the call that nine words stand for.
+// The four words of the call that nine words stand for. Refused with 1002 or 1003 where they stand for none, then with encode's 14, 27 or 31; the lent
+// words are then as they were.
 #[unsafe(no_mangle)]
 pub extern "C" fn psci_encode_original(call: &[u64; 9], out: &mut [u64; 4]) -> Refusal
     ensures writes { Writes refusal_in (encode_original_words call.now out.old) out.old result out.new }
@@ -28,7 +29,8 @@ pub extern "C" fn psci_encode_original(call: &[u64; 9], out: &mut [u64; 4]) -> R
     original_exports::psci_encode_original(call, out)
 }
 
-// Decodes four registers and encodes the call.
+// Decodes four registers and encodes the call. Refused with decode's numbers, 1, 3 to 8 and 26, and with no other; the lent words are then as they
+// were.
 #[unsafe(no_mangle)]
 pub extern "C" fn psci_recode_original(regs: &[u64; 4], out: &mut [u64; 4]) -> Refusal
     ensures writes { Writes refusal_in (recode_original regs.now out.old) out.old result out.new }
