@@ -15,6 +15,7 @@ use words::{Aff3, Mpidr, MpidrResult};
 
 // The MPIDR of a 64-bit word, with affinity 3, from the whole register: the answers of `Mpidr::try_from_u64`. A word with a bit of 24–31 or
 // 40–63 is refused with 4, and carried.
+#[tactic(auto, using(crate::proofs::Whole::whole_refused, crate::proofs::Whole::whole_passed))]
 pub fn try_from_whole(value: u64) -> MpidrResult
     ensures { mpidr_answer result ≡ read_mpidr64 value }
 {
