@@ -1,12 +1,10 @@
 -- Document 01, "What is turned back, by operation": the number of each refusal, and the value that it carries. 26 and 27 are
 -- document 02's Change 1, 31 is its Change 5.
-use Rattle.std.specs.Prelude.{List, [], ◌∷◌, ℕ, ℤ, pos, nat_abs}
-use Rattle.answers.specs.Answers.{Answer, accepted, refused}
+use Rattle.std.specs.Prelude.{List, [], ◌∷◌, ℕ, ℤ, pos, nat_abs, Result}
+use Rattle.answers.specs.Answers.{Answer, refused, answer_by}
 use Rattle.answers.specs.Refusals.{Refusals, RefusalLaws}
 use Rattle.answers.specs.declared.Error.{Error}
 use Rattle.answers.specs.declared.Error.TheVariants.{UnrecognisedFunctionId, InvalidPowerState, InvalidMpidr32, InvalidMpidr64, InvalidLowerAffinityLevel, UnrecognisedSystemOff2Type, UnrecognisedSystemReset2Type, UnrecognisedSuspendMode, UnrecognisedErrorCode, OverflowingErrorCode, InvalidVersion, UnrecognisedHwState, IgnoredNonZeroAff3, MixedCallForms, InvalidStateId, InvalidMajorVersion, WrongLength, InvalidOriginalPowerState, InvalidPowerLevel, InvalidVendorType}
-use Rattle.answers.specs.declared.WordResult.{WordResult}
-use Rattle.answers.specs.declared.WordResult.TheVariants.{Ok, Err}
 
 abbrev pub refusal_number : Error → ℕ
 refusal_number (UnrecognisedFunctionId number) = 1
@@ -56,9 +54,9 @@ refusal_value (InvalidVendorType vendor_type) = pos vendor_type
 abbrev pub refusal : {A : Type 0} → Error → Answer A
 refusal e = refused (refusal_number e) (refusal_value e)
 
-abbrev pub word_answer : WordResult → Answer ℕ
-word_answer (Ok word) = accepted word
-word_answer (Err e) = refusal e
+-- what an operation of the codec gave
+abbrev pub answered : {A : Type 0} → Result A Error → Answer A
+answered result = answer_by refusal result
 
 -- all of them, each with the value that it would carry
 abbrev pub error_cases : ℤ → List Error

@@ -8,10 +8,8 @@ ghost use Rattle.answers.specs.Errors.{refusal_number, refusal_value};
 
 pub mod told;
 
-use bits::signs;
-
 // What the codec turns back, with the value that it carries.
-#[derive(Clone, Copy)]
+#[derive(Clone, Copy, Debug, PartialEq, Eq)]
 pub enum Error {
     UnrecognisedFunctionId(u32), // 1
     InvalidPowerState(u32), // 2
@@ -69,40 +67,26 @@ impl Error {
         ensures { result ≡ word_of 64 (refusal_value self) }
     {
         match self {
-            Self::UnrecognisedFunctionId(value) => value as u64,
-            Self::InvalidPowerState(value) => value as u64,
-            Self::InvalidMpidr32(value) => value as u64,
+            Self::UnrecognisedFunctionId(value) => u64::from(value),
+            Self::InvalidPowerState(value) => u64::from(value),
+            Self::InvalidMpidr32(value) => u64::from(value),
             Self::InvalidMpidr64(value) => value,
-            Self::InvalidLowerAffinityLevel(value) => value as u64,
-            Self::UnrecognisedSystemOff2Type(value) => value as u64,
-            Self::UnrecognisedSystemReset2Type(value) => value as u64,
-            Self::UnrecognisedSuspendMode(value) => value as u64,
-            Self::UnrecognisedErrorCode(value) => sign_extended(value),
-            Self::OverflowingErrorCode(value) => signs::word_64(value),
-            Self::InvalidVersion(value) => value as u64,
-            Self::UnrecognisedHwState(value) => value as u64,
-            Self::IgnoredNonZeroAff3(value) => value as u64,
+            Self::InvalidLowerAffinityLevel(value) => u64::from(value),
+            Self::UnrecognisedSystemOff2Type(value) => u64::from(value),
+            Self::UnrecognisedSystemReset2Type(value) => u64::from(value),
+            Self::UnrecognisedSuspendMode(value) => u64::from(value),
+            Self::UnrecognisedErrorCode(value) => i64::from(value).cast_unsigned(),
+            Self::OverflowingErrorCode(value) => value.cast_unsigned(),
+            Self::InvalidVersion(value) => u64::from(value),
+            Self::UnrecognisedHwState(value) => u64::from(value),
+            Self::IgnoredNonZeroAff3(value) => u64::from(value),
             Self::MixedCallForms => 0,
-            Self::InvalidStateId(value) => value as u64,
-            Self::InvalidMajorVersion(value) => value as u64,
+            Self::InvalidStateId(value) => u64::from(value),
+            Self::InvalidMajorVersion(value) => u64::from(value),
             Self::WrongLength(value) => value as u64,
-            Self::InvalidOriginalPowerState(value) => value as u64,
-            Self::InvalidPowerLevel(value) => value as u64,
-            Self::InvalidVendorType(value) => value as u64,
+            Self::InvalidOriginalPowerState(value) => u64::from(value),
+            Self::InvalidPowerLevel(value) => u64::from(value),
+            Self::InvalidVendorType(value) => u64::from(value),
         }
     }
-}
-
-// A signed number of 32 bits as a word of 64.
-fn sign_extended(value: i32) -> u64
-    ensures { result ≡ word_of 64 value }
-{
-    signs::word_64(value as i64)
-}
-
-// What writing a 32-bit word gives.
-#[derive(Clone, Copy)]
-pub enum WordResult {
-    Ok(u32),
-    Err(Error),
 }

@@ -2,8 +2,6 @@
 use mathlib.Core.Path.{◌≡◌, refl, sym, ap, ◌∙◌}
 use mathlib.Core.Bool.{Bool, true, false, cond}
 use mathlib.Core.Logic.{◌⊎◌, inl, inr}
-use Prim.Native.Nat.{ℕ}
-use native.Mathlib.Omega.{arith}
 
 module _ {A : Type 0} {x : A} {t : Bool} where
   pub if_true : (a b : A) → t ≡ true → x ≡ a → x ≡ cond t a b
@@ -20,10 +18,10 @@ choice P false f g = g refl
 -- what a test that came out true tells of the two that it is made of: both are true, the second alone, one of them
 pub both_true : (t u : Bool) → cond t u false ≡ true → (t ≡ true) × (u ≡ true)
 both_true true u h = (refl, h)
-both_true false u h = let z : ◌≡◌ {A = ℕ} 0 1 = ap (λ (b : Bool). cond b 1 0) h in absurd (omega arith)
+both_true false u h = cc
 
 pub other_true : (t u : Bool) → cond t false u ≡ true → (t ≡ false) × (u ≡ true)
-other_true true u h = let z : ◌≡◌ {A = ℕ} 0 1 = ap (λ (b : Bool). cond b 1 0) h in absurd (omega arith)
+other_true true u h = cc
 other_true false u h = (refl, h)
 
 pub with_either : (t u : Bool) → cond t true u ≡ true → (t ≡ true) ⊎ (u ≡ true)

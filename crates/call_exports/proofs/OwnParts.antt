@@ -5,6 +5,7 @@ use mathlib.Core.List.{List, [], ◌∷◌, ◌++◌}
 use Prim.Native.Nat.{ℕ, ◌^◌, ◌<◌}
 use native.Mathlib.Nat.{mod-eq_of_lt}
 use lib.Dec.{eqb}
+use Rattle.std.specs.Prelude.{Option, None, Some}
 use Rattle.words.specs.Flags.{flag_word}
 use Rattle.words.specs.Mpidrs.{aff3_number}
 use Rattle.words.specs.EntryPoints.{entry_address, entry_context}
@@ -12,8 +13,6 @@ use Rattle.words.specs.Cookies.{cookie_word}
 use Rattle.words.specs.MemProtectRanges.{base_word, length_word}
 use Rattle.words.specs.PsciFeatures.{feature_number, read_feature}
 use Rattle.words.specs.SuspendModes.{suspend_mode_number}
-use Rattle.words.specs.declared.mpidrs.Aff3.{Aff3}
-use Rattle.words.specs.declared.mpidrs.Aff3.TheVariants.{None, Some}
 use Rattle.words.specs.declared.mpidrs.Mpidr.{Mpidr}
 use Rattle.words.specs.declared.power_states.PowerState.{PowerState}
 use Rattle.words.specs.declared.power_states.PowerState.TheVariants.{StandbyOrRetention, PowerDown}
@@ -53,7 +52,7 @@ both_fit (p ∷ ps) qs h g = (h.0, both_fit ps qs h.1 g)
 pub of_both : {A B C : Type 0} (make : A → B → C) (ps qs : List CallPart) {a a' : A} {b b' : B} → Fit (ps ++ qs) → (Fit ps → a ≡ a') → (Fit qs → b ≡ b') → make a b ≡ make a' b'
 of_both make ps qs h f g = ap₂ make (f (first_fit ps qs h)) (g (last_fit ps qs h))
 
-aff3_own : (a : Aff3) → aff3_number a < 2 ^ 8 → either (form_part (mpidr_form a)) None (Some (byte (aff3_number a))) ≡ a
+aff3_own : (a : Option ℕ) → aff3_number a < 2 ^ 8 → either (form_part (mpidr_form a)) None (Some (byte (aff3_number a))) ≡ a
 aff3_own None h = refl
 aff3_own (Some b) h = ap Some (mod-eq_of_lt h)
 

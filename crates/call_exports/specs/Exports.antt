@@ -1,12 +1,8 @@
--- What the exported functions leave of nine words, and what encode gives for them.
-use Rattle.std.specs.Prelude.{cond, List, ℕ, eqb, length}
+-- What encoding gives for nine words.
+use Rattle.std.specs.Prelude.{List, ℕ}
 use Rattle.answers.specs.Answers.{Answer, and_then}
 use Rattle.encode_definition.specs.Encode.{encode_of}
 use Rattle.call_exports.specs.CallAsked.{call_asked}
-
--- nine words in a run of nine; any other run holds what it held
-abbrev pub stored : List ℕ → List ℕ → List ℕ
-stored words run = cond (eqb (length run) 9) words run
 
 -- the call that nine words ask for, written into a run: its refusals first, then those of encoding; of any calls that have nine words
 abbrev pub encode_asked : {Call : Type 0} → (List ℕ → Answer Call) → (Call → List ℕ → Answer (List ℕ)) → List ℕ → List ℕ → Answer (List ℕ)

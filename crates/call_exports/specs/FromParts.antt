@@ -1,10 +1,9 @@
 -- The value that parts stand for, each part cut to its slot. Where a part has no room in its slot, or is a number that no feature has, or a word past the
 -- parts is not zero, the value's own nine words are others than those asked with: the refusal `wrong_part`.
-use Rattle.std.specs.Prelude.{cond, List, ℕ, eqb, get_or}
+use Rattle.std.specs.Prelude.{cond, List, ℕ, eqb, get_or, None, Some}
 use Rattle.answers.specs.Answers.{Answer, accepted, refused}
 use Rattle.words.specs.Mpidrs.{mpidr_of}
 use Rattle.words.specs.PsciFeatures.{read_feature}
-use Rattle.words.specs.declared.mpidrs.Aff3.TheVariants.{None, Some}
 use Rattle.words.specs.declared.mpidrs.Mpidr.{Mpidr}
 use Rattle.words.specs.declared.power_states.PowerState.{PowerState}
 use Rattle.words.specs.declared.power_states.PowerState.TheVariants.{StandbyOrRetention, PowerDown}

@@ -4,6 +4,7 @@ pub mod FromParts
 pub mod LowBits
 pub mod NineWords
 pub mod NineWordsLaws
+pub mod OriginalWords
 pub mod Parts
 pub mod Refusals
 pub mod SameWords

@@ -2,7 +2,7 @@
 -- they are handed to encoding. Stated of any codec whose calls have nine words, and so of document 01's and of Change 2's; proved in proofs/NineWordsLaws.antt.
 use Rattle.std.specs.Prelude.{List, ◌≡◌, ℕ, length}
 use Rattle.answers.specs.Answers.{Answer, accepted, through, and_then}
-use Rattle.function.specs.declared.Function.{Function}
+use Rattle.function.specs.Functions.{Function}
 use Rattle.roundtrip.specs.Codec.{Codec, encode_by, recode_by, Registers, words_in}
 use Rattle.roundtrip.specs.Document01.{document01}
 use Rattle.roundtrip.specs.Smccc.{smccc}

@@ -1,36 +1,23 @@
 // The value that parts stand for, each part cut to its slot.
-ghost use Rattle.std.specs.Prelude.{◌≡◌};
+ghost use Rattle.std.specs.Prelude.{◌≡◌, None, Some};
 ghost use Rattle.call_exports.specs.LowBits.{low, byte};
 ghost use Rattle.call_exports.specs.FromParts.{either, mpidr_in, power_state_in, entry_in, cookie_in, range_in, reset_type_in, feature_in, mode_in};
 
 use crate::low_bits::{low8, low32};
-use function_ids::FunctionId;
 use words::{
-    Aff3, ArchitecturalResetType, Cookie, EntryPoint, MemProtectRange, Mpidr, PowerState,
-    PsciFeature, ResetType, SuspendMode,
+    ArchitecturalResetType, Cookie, EntryPoint, MemProtectRange, Mpidr, PowerState, PsciFeature,
+    ResetType, SuspendMode,
 };
-
-// 0 for absent, any other number for the low byte of the part.
-fn aff3_in(present: u64, part: u64) -> Aff3
-    ensures { result ≡ either present Aff3.None (Aff3.Some (byte part)) }
-{
-    if present == 0 {
-        Aff3::None
-    } else {
-        Aff3::Some(low8(part))
-    }
-}
 
 // The MPIDR of parts 1 to 5: whether affinity 3 is there, then affinities 3 to 0.
 pub fn mpidr_in(c: [u64; 9]) -> Mpidr
     ensures { result ≡ mpidr_in c }
 {
-    let aff3 = aff3_in(c[1], c[2]);
     Mpidr {
         aff0: low8(c[5]),
         aff1: low8(c[4]),
         aff2: low8(c[3]),
-        aff3,
+        aff3: if c[1] == 0 { None } else { Some(low8(c[2])) },
     }
 }
 
@@ -98,21 +85,11 @@ pub fn reset_type_in(vendor: u64, word: u64) -> ResetType
     }
 }
 
-// The feature of the number in the low 32 bits; the SMCCC version where no feature has that number. The functions are gone through: with a second
-// caller of `PsciFeature::try_from_u32` the compiler would inline it in neither, and every decode would have a stack frame for the call.
+// The feature of the number in the low 32 bits; the SMCCC version where no feature has that number.
 pub fn feature_in(number: u64) -> PsciFeature
     ensures { result ≡ feature_in number }
 {
-    let word = low32(number);
-    let mut i = 0;
-    while i < 35 {
-        let function_id = FunctionId::at_index(i);
-        if function_id.to_u32() == word {
-            return PsciFeature::PsciFunction(function_id);
-        }
-        i += 1;
-    }
-    PsciFeature::SmcccVersion
+    PsciFeature::try_from(low32(number)).unwrap_or(PsciFeature::SmcccVersion)
 }
 
 // 0 for platform coordinated, any other number for OS initiated.

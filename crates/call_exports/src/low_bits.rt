@@ -1,4 +1,5 @@
-// The low bits of a word.
+// The low bits of a word, by remainder: an `as` is proved to lose nothing, so it does not cut a word by itself. A function for each width: one for all
+// would need a trait with three impls that say the same.
 ghost use Rattle.std.specs.Prelude.{◌≡◌};
 ghost use Rattle.call_exports.specs.LowBits.{low, half, byte};
 

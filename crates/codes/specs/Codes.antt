@@ -2,17 +2,13 @@
 use Rattle.std.specs.Prelude.{cond, List, [], ◌∷◌, ℕ, eqb, ℤ, pos, neg_ℤ, nat_abs}
 use Rattle.std.specs.Int.Signed.{non_neg}
 use Rattle.answers.specs.Answers.{Answer, accepted, refused, choose, through}
-use Rattle.answers.specs.Errors.{refusal, refusal_number}
+use Rattle.answers.specs.Errors.{refusal_number}
 use Rattle.bits.specs.Signs.{fits_in}
 use Rattle.answers.specs.declared.Error.{Error}
 use Rattle.codes.specs.declared.ErrorCode.{ErrorCode}
 use Rattle.codes.specs.declared.ErrorCode.TheVariants.{NotSupported, InvalidParameters, Denied, AlreadyOn, OnPending, InternalFailure, NotPresent, Disabled, InvalidAddress}
-use Rattle.codes.specs.declared.ErrorCodeResult.{ErrorCodeResult}
-use Rattle.codes.specs.declared.ErrorCodeResult.TheVariants.{Ok, Err}
 use Rattle.codes.specs.declared.ReturnCode.{ReturnCode}
 use Rattle.codes.specs.declared.ReturnCode.TheVariants as return
-use Rattle.codes.specs.declared.ReturnCodeResult.{ReturnCodeResult}
-use Rattle.codes.specs.declared.ReturnCodeResult.TheVariants as returned
 
 abbrev pub minus : ℕ → ℤ
 minus n = neg_ℤ (pos n)
@@ -42,20 +38,12 @@ read_error_code z = cond (non_neg z) (refused 9 z) (choose code_size error_codes
 unfoldable pub read_error_code64 : ℤ → Answer ErrorCode
 read_error_code64 z = cond (fits_in 32 z) (read_error_code z) (refused 10 z)
 
-abbrev pub error_code_answer : ErrorCodeResult → Answer ErrorCode
-error_code_answer (Ok c) = accepted c
-error_code_answer (Err e) = refusal e
-
 abbrev pub return_number : ReturnCode → ℤ
 return_number return.Success = pos 0
 return_number (return.Error c) = code_number c
 
 unfoldable pub read_return_code : ℤ → Answer ReturnCode
 read_return_code z = cond (eqb (nat_abs z) 0) (accepted return.Success) (through return.Error (read_error_code z))
-
-abbrev pub return_code_answer : ReturnCodeResult → Answer ReturnCode
-return_code_answer (returned.Ok c) = accepted c
-return_code_answer (returned.Err e) = refusal e
 
 -- refusal 1 becomes code −1, every other refusal −2: by its number, whichever operation refuses
 abbrev pub code_of_refusal : ℕ → ErrorCode

@@ -2,31 +2,24 @@
 #![tactic(auto)]
 
 ghost use Rattle.std.specs.Prelude.{◌≡◌};
-ghost use Rattle.codes.specs.Codes.{code_of_refusal, error_code_of, code_number, error_code_answer, read_error_code, read_error_code64, return_number, return_code_answer, read_return_code};
+ghost use Rattle.answers.specs.Errors.{answered};
+ghost use Rattle.codes.specs.Codes.{code_of_refusal, error_code_of, code_number, read_error_code, read_error_code64, return_number, read_return_code};
 ghost use Rattle.bits.specs.Signs.{signed, word_of};
 
 use answers::Error;
-use bits::signs;
 
 // DEN0022 5.2.2.
-#[derive(Clone, Copy)]
+#[derive(Clone, Copy, Debug, PartialEq, Eq)]
 pub enum ErrorCode {
-    NotSupported,
-    InvalidParameters,
-    Denied,
-    AlreadyOn,
-    OnPending,
-    InternalFailure,
-    NotPresent,
-    Disabled,
-    InvalidAddress,
-}
-
-// What reading an error code gives.
-#[derive(Clone, Copy)]
-pub enum ErrorCodeResult {
-    Ok(ErrorCode),
-    Err(Error),
+    NotSupported = -1,
+    InvalidParameters = -2,
+    Denied = -3,
+    AlreadyOn = -4,
+    OnPending = -5,
+    InternalFailure = -6,
+    NotPresent = -7,
+    Disabled = -8,
+    InvalidAddress = -9,
 }
 
 impl ErrorCode {
@@ -40,19 +33,25 @@ impl ErrorCode {
             Self::InvalidParameters
         }
     }
+}
+
+impl From<Error> for ErrorCode {
+    ghost from_gives = { λ error code. code ≡ error_code_of error };
 
     // The code of an error: that of its refusal's number.
-    pub fn from_error(value: Error) -> Self
-        ensures { result ≡ error_code_of value }
-    {
-        Self::from_refusal(value.number())
+    fn from(error: Error) -> Self {
+        Self::from_refusal(error.number())
     }
+}
+
+impl TryFrom<i32> for ErrorCode {
+    type Error = Error;
+
+    ghost try_from_gives = { λ value result. answered result ≡ read_error_code value };
 
     // The code of a signed number from −9 to −1; any other is refused with 9, and carried.
-    #[tactic(auto, using(bits::proofs::TwosComplement::number_is), unfolding(crate::specs::Codes::read_error_code))]
-    pub fn try_from_i32(value: i32) -> ErrorCodeResult
-        ensures { error_code_answer result ≡ read_error_code value }
-    {
+    #[tactic(auto, unfolding(crate::specs::Codes::read_error_code))]
+    fn try_from(value: i32) -> Result<Self, Error> {
         let error_code = match value {
             -1 => Self::NotSupported,
             -2 => Self::InvalidParameters,
@@ -63,100 +62,96 @@ impl ErrorCode {
             -7 => Self::NotPresent,
             -8 => Self::Disabled,
             -9 => Self::InvalidAddress,
-            _ => return ErrorCodeResult::Err(Error::UnrecognisedErrorCode(value)),
+            _ => return Err(Error::UnrecognisedErrorCode(value)),
         };
-        ErrorCodeResult::Ok(error_code)
-    }
-
-    // The same of a word of 32 bits, read as two's complement.
-    pub fn try_from_u32(value: u32) -> ErrorCodeResult
-        ensures { error_code_answer result ≡ read_error_code (signed 32 value) }
-    {
-        Self::try_from_i32(signs::signed_32(value))
-    }
-
-    // The same of a word of 64 bits; a number that does not fit 32 bits is refused with 10 first, and carried.
-    #[tactic(auto, unfolding(crate::specs::Codes::read_error_code64))]
-    pub fn try_from_u64(value: u64) -> ErrorCodeResult
-        ensures { error_code_answer result ≡ read_error_code64 (signed 64 value) }
-    {
-        if value < 0x8000_0000 {
-            return Self::try_from_u32(value as u32);
-        }
-        if 0xffff_ffff_8000_0000 <= value {
-            return Self::try_from_u32((value - 0xffff_ffff_0000_0000) as u32);
-        }
-        ErrorCodeResult::Err(Error::OverflowingErrorCode(signs::signed_64(value)))
-    }
-
-    // The code's number, −9 to −1.
-    pub fn to_i32(self) -> i32
-        ensures { result ≡ code_number self }
-    {
-        match self {
-            Self::NotSupported => -1,
-            Self::InvalidParameters => -2,
-            Self::Denied => -3,
-            Self::AlreadyOn => -4,
-            Self::OnPending => -5,
-            Self::InternalFailure => -6,
-            Self::NotPresent => -7,
-            Self::Disabled => -8,
-            Self::InvalidAddress => -9,
-        }
-    }
-
-    // The same as a word of 32 bits, in two's complement.
-    pub fn to_u32(self) -> u32
-        ensures { result ≡ word_of 32 (code_number self) }
-    {
-        signs::word_32(self.to_i32())
-    }
-
-    // The same as a word of 64 bits: sign-extended.
-    pub fn to_u64(self) -> u64
-        ensures { result ≡ word_of 64 (code_number self) }
-    {
-        signs::word_64(self.to_i32() as i64)
+        Ok(error_code)
     }
 }
 
-// Success, or an error code.
-#[derive(Clone, Copy)]
+impl TryFrom<u32> for ErrorCode {
+    type Error = Error;
+
+    ghost try_from_gives = { λ value result. answered result ≡ read_error_code (signed 32 value) };
+
+    // The same of a word of 32 bits, read as two's complement.
+    fn try_from(value: u32) -> Result<Self, Error> {
+        Self::try_from(value.cast_signed())
+    }
+}
+
+impl TryFrom<u64> for ErrorCode {
+    type Error = Error;
+
+    ghost try_from_gives = { λ value result. answered result ≡ read_error_code64 (signed 64 value) };
+
+    // The same of a word of 64 bits; a number that does not fit 32 bits is refused with 10 first, and carried.
+    #[tactic(auto, unfolding(crate::specs::Codes::read_error_code64))]
+    fn try_from(value: u64) -> Result<Self, Error> {
+        let number = value.cast_signed();
+        match i32::try_from(number) {
+            Ok(code) => Self::try_from(code),
+            Err(_) => Err(Error::OverflowingErrorCode(number)),
+        }
+    }
+}
+
+impl From<ErrorCode> for i32 {
+    ghost from_gives = { λ error_code number. number ≡ code_number error_code };
+
+    // The code's number, −9 to −1.
+    fn from(error_code: ErrorCode) -> i32 {
+        error_code as i32
+    }
+}
+
+impl From<ErrorCode> for u32 {
+    ghost from_gives = { λ error_code word. word ≡ word_of 32 (code_number error_code) };
+
+    // The same as a word of 32 bits, in two's complement.
+    fn from(error_code: ErrorCode) -> u32 {
+        i32::from(error_code).cast_unsigned()
+    }
+}
+
+impl From<ErrorCode> for u64 {
+    ghost from_gives = { λ error_code word. word ≡ word_of 64 (code_number error_code) };
+
+    // The same as a word of 64 bits: sign-extended.
+    fn from(error_code: ErrorCode) -> u64 {
+        i64::from(i32::from(error_code)).cast_unsigned()
+    }
+}
+
+// Success, or an error code. No `Result`: it has conversions of its own, which a type of std can't be given here.
+#[derive(Clone, Copy, Debug, PartialEq, Eq)]
 pub enum ReturnCode {
     Success,
     Error(ErrorCode),
 }
 
-// What reading a return code gives.
-#[derive(Clone, Copy)]
-pub enum ReturnCodeResult {
-    Ok(ReturnCode),
-    Err(Error),
+impl TryFrom<i32> for ReturnCode {
+    type Error = Error;
+
+    ghost try_from_gives = { λ value result. answered result ≡ read_return_code value };
+
+    // Success of 0, the error of a number from −9 to −1; any other is refused with 9, and carried.
+    #[tactic(auto, unfolding(crate::specs::Codes::read_return_code))]
+    fn try_from(value: i32) -> Result<Self, Error> {
+        if value == 0 {
+            return Ok(Self::Success);
+        }
+        Ok(Self::Error(ErrorCode::try_from(value)?))
+    }
 }
 
-impl ReturnCode {
-    // Success of 0, the error of a number from −9 to −1; any other is refused with 9, and carried.
-    #[tactic(auto, using(bits::proofs::TwosComplement::number_is), unfolding(crate::specs::Codes::read_return_code))]
-    pub fn try_from_i32(value: i32) -> ReturnCodeResult
-        ensures { return_code_answer result ≡ read_return_code value }
-    {
-        if value == 0 {
-            return ReturnCodeResult::Ok(Self::Success);
-        }
-        match ErrorCode::try_from_i32(value) {
-            ErrorCodeResult::Ok(error_code) => ReturnCodeResult::Ok(Self::Error(error_code)),
-            ErrorCodeResult::Err(error) => ReturnCodeResult::Err(error),
-        }
-    }
+impl From<ReturnCode> for i32 {
+    ghost from_gives = { λ return_code number. number ≡ return_number return_code };
 
     // 0 for success, the error's number otherwise.
-    pub fn to_i32(self) -> i32
-        ensures { result ≡ return_number self }
-    {
-        match self {
-            Self::Success => 0,
-            Self::Error(error_code) => error_code.to_i32(),
+    fn from(return_code: ReturnCode) -> i32 {
+        match return_code {
+            ReturnCode::Success => 0,
+            ReturnCode::Error(error_code) => i32::from(error_code),
         }
     }
 }

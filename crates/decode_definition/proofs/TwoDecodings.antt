@@ -11,13 +11,14 @@ use Rattle.function_ids.specs.FunctionIds.{narrow, function_number}
 use Rattle.function_ids.specs.declared.FunctionId.TheVariants.{MemProtect}
 use Rattle.function_ids.specs.CallTable.{Kind, power_state, entry, context, mpidr, level, feature, mode, reset_type, off_type, cookie, range_base, range_length, memory_protect, Listed, low_half, part_of, whole, Look, bits_of, rule_of, look_of_fields, look_of_number, keep, number_in, kept_set, kept01}
 use Rattle.function_ids.proofs.CallTableLaws.{protect_alone}
+use Rattle.words.specs.PowerStates.{read_power_state}
 use Rattle.decode_definition.specs.Decode.{call_in, decode_by, decode_of, decode_smccc}
 use Rattle.decode_definition.specs.TwoDecodings.{with_low_r1, low_half_for_protect, TwoDecodings}
 
 -- what is kept decides
 alike : (regs others : List ℕ) → kept_set (look_of_number low_half) regs ≡ kept01 others → decode_smccc regs ≡ decode_of others
-unfolding decode_smccc decode_of decode_by
-alike regs others e = ap call_in e
+unfolding decode_by
+alike regs others e = ap (call_in read_power_state) e
 
 elsewhere : (regs : List ℕ) → (number_in regs ≡ function_number MemProtect → ⊥) → decode_smccc regs ≡ decode_of regs
 elsewhere regs other =
@@ -53,7 +54,7 @@ of_protect regs e =
 
 -- decoding asks for four registers
 pub four_only : (regs : List ℕ) → decode_of regs ≡ decode_of (get_or regs 0 0 ∷ get_or regs 1 0 ∷ get_or regs 2 0 ∷ get_or regs 3 0 ∷ [])
-unfolding decode_of decode_by
+unfolding decode_by
 four_only regs = refl
 
 low_r1_only : (regs : List ℕ) → decode_of (with_low_r1 regs) ≡ decode_of (get_or regs 0 0 ∷ part_of low_half (get_or regs 1 0) ∷ get_or regs 2 0 ∷ get_or regs 3 0 ∷ [])
@@ -91,10 +92,10 @@ fields_low (f ∷ fs) register x =
     choice (λ (k : Look). keep k (part_of low_half x) ≡ keep k x) (eqb f.register register) (λ e. kind_low f.kind x) (λ e. fields_low fs register x)
 
 low_halves : (regs : List ℕ) → (rule_of (number_in regs)).form ≡ narrow → decode_smccc regs ≡ decode_smccc (map (part_of low_half) regs)
-unfolding decode_smccc decode_by
+unfolding decode_by
 low_halves regs form =
     let at : (i : ℕ) → get_or (map (part_of low_half) regs) i 0 ≡ part_of low_half (get_or regs i 0) = λ i. get_or-map (part_of low_half) regs i 0 in
-    ap call_in (simp (at 0, at 1, at 2, at 3, mod-mod, form, fields_low (rule_of (number_in regs)).fields))
+    ap (call_in read_power_state) (simp (at 0, at 1, at 2, at 3, mod-mod, form, fields_low (rule_of (number_in regs)).fields))
 
 pub two_decodings : TwoDecodings
 two_decodings = record { elsewhere = elsewhere; of_protect = of_protect; by_01 = by_01; low_halves = low_halves }

@@ -2,11 +2,11 @@
 use Rattle.std.specs.Prelude.{cond, ℕ, leb, pos}
 use Rattle.answers.specs.Answers.{Answer, refused, through, and_then}
 use Rattle.words.specs.declared.mpidrs.Mpidr.{Mpidr}
-use Rattle.function.specs.declared.Function.{Function}
-use Rattle.function.specs.declared.Function.TheVariants.{AffinityInfo}
+use Rattle.function.specs.declared.Call.{Call}
+use Rattle.function.specs.declared.Call.TheVariants.{AffinityInfo}
 
 -- refusal 5: affinity info's level, before its MPIDR
-abbrev pub affinity_info : ℕ → ℕ → Answer Mpidr → Answer Function
+abbrev pub affinity_info : {S : Type 0} → ℕ → ℕ → Answer Mpidr → Answer (Call S)
 affinity_info most lowest m = cond (leb lowest most) (through (λ x. AffinityInfo x lowest) m) (refused 5 (pos lowest))
 
 -- two fields by register: the MPIDR is refused before the power state, whichever format that has

@@ -1,39 +1,25 @@
 // The edges of the line, and the sheet of document 01's example.
+use crate::answered::Refused;
 use crate::example::LOG;
-use crate::text::{new_line, number, refused};
 use call_log::records;
-use record_line::LineResult;
 use sheet_text::{SHEET_ROOM, write_sheet};
 use std::io;
 
-fn show_answer(rt: &impl Print, answer: LineResult) -> io::Result<()> {
-    match answer {
-        LineResult::Ok(size) => {
-            rt.print("length ")?;
-            number(rt, size as u64)?;
-        }
-        LineResult::Err(error) => refused(rt, error.number(), error.value())?,
-    }
-    new_line(rt)
-}
-
 // A line's answer, and below it all lent bytes.
 fn show_line(rt: &impl Print, record: usize, regs: [u64; 4], out: &mut [u8]) -> io::Result<()> {
-    rt.print("line ")?;
-    number(rt, record as u64)?;
-    rt.print(" into ")?;
-    number(rt, out.len() as u64)?;
-    rt.print(" bytes: ")?;
-    show_answer(rt, record_line::line(record, regs, out))?;
+    print!(rt; "line {record} into {} bytes: ", out.len())?;
+    match record_line::line(record, regs, out) {
+        Ok(size) => println!(rt; "length {size}")?,
+        Err(error) => println!(rt; "{}", Refused::from(error))?,
+    }
     rt.write_all(out)?;
-    new_line(rt)
+    rt.println("")
 }
 
 // The line of the example's record at a position, into 80 bytes that hold dots.
 fn show_record(rt: &impl Print, at: usize, record: usize) -> io::Result<()> {
-    let log = LOG;
     let mut out = [b'.'; 80];
-    let regs = records::registers_of(records::record_at(&log, at));
+    let regs = records::registers_of(records::record_at(&LOG, at));
     show_line(rt, record, regs, &mut out)
 }
 
@@ -69,8 +55,7 @@ fn show_protect(rt: &impl Print) -> io::Result<()> {
 
 // The example's sheet, exactly as long as the length that it was given.
 pub(crate) fn show_sheet(rt: &impl Print) -> io::Result<()> {
-    let log = LOG;
     let mut out = [b'.'; SHEET_ROOM];
-    let size = write_sheet(&log, &mut out);
+    let size = write_sheet(&LOG, &mut out);
     rt.write_all(&out[..size])
 }

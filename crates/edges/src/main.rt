@@ -5,7 +5,6 @@ mod answered;
 mod example;
 mod lines;
 mod logs;
-mod text;
 
 use std::io;
 

@@ -13,23 +13,23 @@ use Rattle.answers.proofs.Lending.{fronted_all, turned_back, put_down}
 use Rattle.function_ids.specs.FunctionIds.{function_number}
 use Rattle.function_ids.specs.declared.FunctionId.{FunctionId}
 use Rattle.function.specs.Functions.{function_id_of}
-use Rattle.function.specs.declared.Function.{Function}
-use Rattle.encode_definition.specs.Arguments.{fields_of, three, arguments_of}
-use Rattle.encode_definition.specs.Encode.{with_number, in_four, written_of, words_of, encode_of}
+use Rattle.function.specs.declared.Call.{Call}
+use Rattle.encode_definition.specs.Arguments.{fields_of, three, arguments_by}
+use Rattle.encode_definition.specs.Encode.{with_number, in_four, written_of, words_by}
 
 -- what is accepted for a run is accepted for a run of four
 pub run_of_four : (words : Answer (List ℕ)) (run four : List ℕ) → in_four words run ≡ accepted four → length run ≡ 4
 run_of_four words run four e = eqb-true (length run) 4 (handed_on (eqb (length run) 4) words four 17 (pos (length run)) e).0
 
 -- encoding is the writing of a call's number and arguments
-pub written_call : (f : Function) (run : List ℕ) → written_of (function_id_of f) (arguments_of f) run ≡ encode_of f run
-unfolding written_of words_of
-written_call f run = refl
+pub written_call : {S : Type 0} (write : S → Answer ℕ) (f : Call S) (run : List ℕ) → written_of (function_id_of f) (arguments_by write f) run ≡ in_four (words_by write f) run
+unfolding written_of words_by
+written_call write f run = refl
 
 -- a call's arguments are three
-pub three_arguments : (f : Function) (words : List ℕ) → arguments_of f ≡ accepted words → length words ≡ 3
-unfolding arguments_of
-three_arguments f words e = let fields = came_through three (fields_of f) words e in ap length (sym fields.1.1)
+pub three_arguments : {S : Type 0} (write : S → Answer ℕ) (f : Call S) (words : List ℕ) → arguments_by write f ≡ accepted words → length words ≡ 3
+unfolding arguments_by
+three_arguments write f words e = let fields = came_through three (fields_of write f) words e in ap length (sym fields.1.1)
 
 module _ (number : Answer FunctionId) (arguments : Answer (List ℕ)) (run : List ℕ) where
   -- what a writing says, and what it leaves in the run

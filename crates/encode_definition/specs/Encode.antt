@@ -3,17 +3,22 @@ use Rattle.std.specs.Prelude.{cond, List, ◌∷◌, ℕ, eqb, pos, length}
 use Rattle.answers.specs.Answers.{Answer, refused, through, and_then}
 use Rattle.function_ids.specs.FunctionIds.{function_number}
 use Rattle.function_ids.specs.declared.FunctionId.{FunctionId}
-use Rattle.function.specs.Functions.{function_id_of}
-use Rattle.function.specs.declared.Function.{Function}
-use Rattle.encode_definition.specs.Arguments.{arguments_of}
+use Rattle.words.specs.PowerStates.{write_power_state}
+use Rattle.function.specs.Functions.{Function, function_id_of}
+use Rattle.function.specs.declared.Call.{Call}
+use Rattle.encode_definition.specs.Arguments.{arguments_by}
 
 -- word 0 is the function number; its refusal comes before that of the arguments
 abbrev pub with_number : Answer FunctionId → Answer (List ℕ) → Answer (List ℕ)
 with_number number arguments = and_then number (λ id. through (λ words. function_number id ∷ words) arguments)
 
--- a call's four words; refusal 14 is the number's, 15 that of a power state, 31 that of a reset type
-unfoldable pub words_of : Function → Answer (List ℕ)
-words_of f = with_number (function_id_of f) (arguments_of f)
+-- a call's four words, by the writer of its power state; refusal 14 is the number's, 31 that of a reset type
+unfoldable pub words_by : {S : Type 0} → (S → Answer ℕ) → Call S → Answer (List ℕ)
+words_by write f = with_number (function_id_of f) (arguments_by write f)
+
+-- document 01's; 15 is the power state's
+abbrev pub words_of : Function → Answer (List ℕ)
+words_of f = words_by write_power_state f
 
 -- four words for a lent run; refusal 17 first: a run not exactly four numbers long. The words of a call are four, as the run is (`three_arguments` in
 -- proofs/Laws.antt), and so all that `left` leaves in it

@@ -2,6 +2,7 @@
 use mathlib.Core.Path.{◌≡◌, refl, sym, ap, subst, ◌∙◌}
 use mathlib.Core.Logic.{◌⊎◌, inl, inr, ⊎_elim}
 use Prim.Native.Nat.{ℕ}
+use Rattle.std.specs.Prelude.{Option, None, Some}
 use Rattle.answers.specs.Answers.{Answer, accepted, refused}
 use Rattle.function_ids.specs.FunctionIds.{Form, narrow, wide}
 use Rattle.function_ids.specs.CallTable.{rule_of}
@@ -10,29 +11,28 @@ use Rattle.function_ids.specs.declared.FunctionId.TheVariants as id
 use Rattle.words.specs.declared.mpidrs.Mpidr.{Mpidr}
 use Rattle.function.specs.Forms.{in_form, entry_form, cookie_form, range_form, flag_form, mpidr_form, on_number}
 use Rattle.function.specs.Functions.{function_id_of}
-use Rattle.function.specs.NamedCores.{named_cores}
+use Rattle.function.specs.NamedCores.{named_cores, group}
 use Rattle.function.specs.NamedCoresLaws.{NamedCoresLaws, names, lists_mpidr}
-use Rattle.function.specs.declared.Function.{Function}
-use Rattle.function.specs.declared.Function.TheVariants.{Version, CpuSuspend, CpuOff, CpuOn, AffinityInfo, Migrate, MigrateInfoType, MigrateInfoUpCpu, SystemOff, SystemOff2, SystemReset, SystemReset2, MemProtect, MemProtectCheckRange, Features, CpuFreeze, CpuDefaultSuspend, NodeHwState, SystemSuspend, SetSuspendMode, StatResidency, StatCount}
-use Rattle.function.specs.declared.named_cores.NamedCores.{NamedCores}
-use Rattle.function.specs.declared.named_cores.NamedCores.TheVariants.{Nobody, Group}
+use Rattle.function.specs.declared.Call.{Call}
+use Rattle.function.specs.declared.Call.TheVariants.{Version, CpuSuspend, CpuOff, CpuOn, AffinityInfo, Migrate, MigrateInfoType, MigrateInfoUpCpu, SystemOff, SystemOff2, SystemReset, SystemReset2, MemProtect, MemProtectCheckRange, Features, CpuFreeze, CpuDefaultSuspend, NodeHwState, SystemSuspend, SetSuspendMode, StatResidency, StatCount}
+use Rattle.function.specs.declared.named_cores.CoreGroup.{CoreGroup}
 
--- the level of named cores, 0 for nobody
-abbrev level_of : NamedCores → ℕ
-level_of Nobody = 0
-level_of (Group m level) = level
+-- the level of named cores, 0 for none
+abbrev level_of : Option CoreGroup → ℕ
+level_of None = 0
+level_of (Some cores) = cores.level
 
 -- what the laws say of named cores and a function
-record Agree (cores : NamedCores) (n : FunctionId) : Type 0 where
+record Agree (cores : Option CoreGroup) (n : FunctionId) : Type 0 where
   listed : names cores ≡ lists_mpidr n
   level : (level_of cores ≡ 0) ⊎ ((n ≡ id.AffinityInfo32) ⊎ (n ≡ id.AffinityInfo64))
 
 -- the same of a call's answer to which function it is
-abbrev AgreeWith : NamedCores → Answer FunctionId → Type 0
+abbrev AgreeWith : Option CoreGroup → Answer FunctionId → Type 0
 AgreeWith cores (accepted n) = Agree cores n
 AgreeWith cores (refused number value) = Unit {0}
 
-module _ {cores : NamedCores} where
+module _ {cores : Option CoreGroup} where
   at_0 : {n : FunctionId} → names cores ≡ lists_mpidr n → level_of cores ≡ 0 → Agree cores n
   at_0 p z = record { listed = p; level = inl z }
 
@@ -46,7 +46,7 @@ module _ {cores : NamedCores} where
   cpu_on wide narrow p q = tt
   cpu_on wide wide p q = q
 
-agree : (f : Function) → AgreeWith (named_cores f) (function_id_of f)
+agree : {S : Type 0} (f : Call S) → AgreeWith (named_cores f) (function_id_of f)
 unfolding named_cores function_id_of rule_of
 agree Version = at_0 refl refl
 agree (CpuSuspend state entry) = form_agrees (entry_form entry) (at_0 refl refl) (at_0 refl refl)
@@ -72,10 +72,10 @@ agree (SetSuspendMode mode) = at_0 refl refl
 agree (StatResidency m state) = form_agrees (mpidr_form m.aff3) (at_0 refl refl) (at_0 refl refl)
 agree (StatCount m state) = form_agrees (mpidr_form m.aff3) (at_0 refl refl) (at_0 refl refl)
 
-agreed : (f : Function) (n : FunctionId) → function_id_of f ≡ accepted n → Agree (named_cores f) n
+agreed : {S : Type 0} (f : Call S) (n : FunctionId) → function_id_of f ≡ accepted n → Agree (named_cores f) n
 agreed f n e = subst (AgreeWith (named_cores f)) e (agree f)
 
-other_level : (f : Function) (n : FunctionId) (m : Mpidr) (level : ℕ) → function_id_of f ≡ accepted n → named_cores f ≡ Group m level →
+other_level : {S : Type 0} (f : Call S) (n : FunctionId) (m : Mpidr) (level : ℕ) → function_id_of f ≡ accepted n → named_cores f ≡ Some (group m level) →
     (level ≡ 0 → ⊥) → (n ≡ id.AffinityInfo32) ⊎ (n ≡ id.AffinityInfo64)
 other_level f n m level e q other = ⊎_elim (λ z. absurd (other (sym (ap level_of q) ∙ z))) (λ x. x) (agreed f n e).level
 

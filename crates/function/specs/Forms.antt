@@ -1,11 +1,9 @@
 -- Document 01, "The four written words": the form of a typed call, by the part of it that the form follows.
-use Rattle.std.specs.Prelude.{Bool, true, false, pos}
+use Rattle.std.specs.Prelude.{ℕ, Bool, true, false, pos, Option, None, Some}
 use Rattle.answers.specs.Answers.{Answer, accepted, refused}
 use Rattle.function_ids.specs.FunctionIds.{Form, narrow, wide}
 use Rattle.function_ids.specs.declared.FunctionId.{FunctionId}
 use Rattle.function_ids.specs.declared.FunctionId.TheVariants as id
-use Rattle.words.specs.declared.mpidrs.Aff3.{Aff3}
-use Rattle.words.specs.declared.mpidrs.Aff3.TheVariants.{None, Some}
 use Rattle.words.specs.declared.entry_points.EntryPoint.{EntryPoint}
 use Rattle.words.specs.declared.entry_points.EntryPoint.TheVariants.{Entry32, Entry64}
 use Rattle.words.specs.declared.cookies.Cookie.{Cookie}
@@ -36,7 +34,7 @@ abbrev pub flag_form : Bool → Form
 flag_form true = narrow
 flag_form false = wide
 
-abbrev pub mpidr_form : Aff3 → Form
+abbrev pub mpidr_form : Option ℕ → Form
 mpidr_form None = narrow
 mpidr_form (Some byte) = wide
 

@@ -1,19 +1,17 @@
--- Document 01, "The four written words": the function number of a typed call.
+-- Document 01, "The typed call" and "The four written words": its calls, and the function number of a typed call, whatever the format of its power state.
 use Rattle.answers.specs.Answers.{Answer, accepted}
-use Rattle.answers.specs.Errors.{refusal}
 use Rattle.function_ids.specs.declared.FunctionId.{FunctionId}
 use Rattle.function_ids.specs.declared.FunctionId.TheVariants as id
+use Rattle.words.specs.declared.power_states.PowerState.{PowerState}
 use Rattle.function.specs.Forms.{in_form, entry_form, cookie_form, range_form, flag_form, mpidr_form, on_number}
-use Rattle.function.specs.declared.Function.{Function}
-use Rattle.function.specs.declared.Function.TheVariants.{Version, CpuSuspend, CpuOff, CpuOn, AffinityInfo, Migrate, MigrateInfoType, MigrateInfoUpCpu, SystemOff, SystemOff2, SystemReset, SystemReset2, MemProtect, MemProtectCheckRange, Features, CpuFreeze, CpuDefaultSuspend, NodeHwState, SystemSuspend, SetSuspendMode, StatResidency, StatCount}
-use Rattle.function.specs.declared.FunctionResult.{FunctionResult}
-use Rattle.function.specs.declared.FunctionResult.TheVariants.{Ok, Err}
+use Rattle.function.specs.declared.Call.{Call}
+use Rattle.function.specs.declared.Call.TheVariants.{Version, CpuSuspend, CpuOff, CpuOn, AffinityInfo, Migrate, MigrateInfoType, MigrateInfoUpCpu, SystemOff, SystemOff2, SystemReset, SystemReset2, MemProtect, MemProtectCheckRange, Features, CpuFreeze, CpuDefaultSuspend, NodeHwState, SystemSuspend, SetSuspendMode, StatResidency, StatCount}
 
-abbrev pub function_answer : FunctionResult → Answer Function
-function_answer (Ok f) = accepted f
-function_answer (Err e) = refusal e
+-- document 01's calls have a power state of the extended format
+abbrev pub Function : Type 0
+Function = Call PowerState
 
-unfoldable pub function_id_of : Function → Answer FunctionId
+unfoldable pub function_id_of : {S : Type 0} → Call S → Answer FunctionId
 function_id_of Version = accepted id.PsciVersion
 function_id_of (CpuSuspend state entry) = accepted (in_form (entry_form entry) id.CpuSuspend32 id.CpuSuspend64)
 function_id_of CpuOff = accepted id.CpuOff

@@ -2,3 +2,4 @@ pub mod Forms
 pub mod Functions
 pub mod NamedCores
 pub mod NamedCoresLaws
+pub mod States

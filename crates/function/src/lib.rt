@@ -1,27 +1,32 @@
-// The typed call: the enum Function, its function number, and the cores that it names (named_cores.rt).
+// The typed call: the enum Call, over the format of its power state (state_format.rt), its function number, the cores that it names (named_cores.rt), and
+// the call in another format (states.rt).
 #![tactic(auto)]
 
 ghost use Rattle.std.specs.Prelude.{◌≡◌};
-ghost use Rattle.function_ids.specs.FunctionIds.{function_id_answer};
+ghost use Rattle.answers.specs.Errors.{answered};
 ghost use Rattle.function.specs.Functions.{function_id_of};
 
 pub mod forms;
 mod named_cores;
+mod state_format;
+mod states;
 
 use answers::Error;
-use function_ids::{FunctionId, FunctionIdResult};
-pub use named_cores::NamedCores;
+use forms::Formed;
+use function_ids::FunctionId;
+pub use named_cores::CoreGroup;
+pub use state_format::StateFormat;
 use words::{
     Cookie, EntryPoint, MemProtectRange, Mpidr, PowerState, PsciFeature, ResetType, SuspendMode,
     SystemOff2Type,
 };
 
-// The calls with their arguments.
-#[derive(Clone, Copy)]
-pub enum Function {
+// The calls with their arguments, the power state in any format.
+#[derive(Clone, Copy, Debug, PartialEq, Eq)]
+pub enum Call<S> {
     Version,
     CpuSuspend {
-        state: PowerState,
+        state: S,
         entry: EntryPoint,
     },
     CpuOff,
@@ -75,99 +80,74 @@ pub enum Function {
     },
     StatResidency {
         target_cpu: Mpidr,
-        power_state: PowerState,
+        power_state: S,
     },
     StatCount {
         target_cpu: Mpidr,
-        power_state: PowerState,
+        power_state: S,
     },
 }
 
-// What decoding gives.
-#[derive(Clone, Copy)]
-pub enum FunctionResult {
-    Ok(Function),
-    Err(Error),
-}
+// Document 01's calls: the extended format.
+pub type Function = Call<PowerState>;
 
-impl Function {
+impl<S: Copy> Call<S> {
     // The function number, in the form that the call follows. A CPU on whose MPIDR and entry differ in form is refused with 14; nothing else
     // is refused.
     #[tactic(auto, unfolding(crate::specs::Functions::function_id_of))]
-    pub fn function_id(self) -> FunctionIdResult
-        ensures { function_id_answer result ≡ function_id_of self }
+    pub fn function_id(self) -> Result<FunctionId, Error>
+        ensures { answered result ≡ function_id_of self }
     {
-        match self {
-            Self::Version => FunctionIdResult::Ok(FunctionId::PsciVersion),
-            Self::CpuSuspend { entry, .. } => FunctionIdResult::Ok(forms::by_entry(
-                entry,
-                FunctionId::CpuSuspend32,
-                FunctionId::CpuSuspend64,
-            )),
-            Self::CpuOff => FunctionIdResult::Ok(FunctionId::CpuOff),
-            Self::CpuOn { target_cpu, entry } => forms::cpu_on(target_cpu, entry),
-            Self::AffinityInfo { mpidr, .. } => FunctionIdResult::Ok(forms::by_mpidr(
-                mpidr,
-                FunctionId::AffinityInfo32,
-                FunctionId::AffinityInfo64,
-            )),
-            Self::Migrate { target_affinity } => FunctionIdResult::Ok(forms::by_mpidr(
-                target_affinity,
-                FunctionId::Migrate32,
-                FunctionId::Migrate64,
-            )),
-            Self::MigrateInfoType => FunctionIdResult::Ok(FunctionId::MigrateInfoType),
-            Self::MigrateInfoUpCpu { is_32bit } => FunctionIdResult::Ok(forms::by_flag(
-                is_32bit,
-                FunctionId::MigrateInfoUpCpu32,
-                FunctionId::MigrateInfoUpCpu64,
-            )),
-            Self::SystemOff => FunctionIdResult::Ok(FunctionId::SystemOff),
-            Self::SystemOff2 { cookie, .. } => FunctionIdResult::Ok(forms::by_cookie(
-                cookie,
-                FunctionId::SystemOff232,
-                FunctionId::SystemOff264,
-            )),
-            Self::SystemReset => FunctionIdResult::Ok(FunctionId::SystemReset),
-            Self::SystemReset2 { cookie, .. } => FunctionIdResult::Ok(forms::by_cookie(
-                cookie,
-                FunctionId::SystemReset232,
-                FunctionId::SystemReset264,
-            )),
-            Self::MemProtect { .. } => FunctionIdResult::Ok(FunctionId::MemProtect),
-            Self::MemProtectCheckRange { range } => FunctionIdResult::Ok(forms::by_range(
-                range,
+        let function_id = match self {
+            Self::Version => FunctionId::PsciVersion,
+            Self::CpuSuspend { entry, .. } => {
+                entry.in_form(FunctionId::CpuSuspend32, FunctionId::CpuSuspend64)
+            }
+            Self::CpuOff => FunctionId::CpuOff,
+            Self::CpuOn { target_cpu, entry } => forms::cpu_on(target_cpu, entry)?,
+            Self::AffinityInfo { mpidr, .. } => {
+                mpidr.in_form(FunctionId::AffinityInfo32, FunctionId::AffinityInfo64)
+            }
+            Self::Migrate { target_affinity } => {
+                target_affinity.in_form(FunctionId::Migrate32, FunctionId::Migrate64)
+            }
+            Self::MigrateInfoType => FunctionId::MigrateInfoType,
+            Self::MigrateInfoUpCpu { is_32bit: true } => FunctionId::MigrateInfoUpCpu32,
+            Self::MigrateInfoUpCpu { is_32bit: false } => FunctionId::MigrateInfoUpCpu64,
+            Self::SystemOff => FunctionId::SystemOff,
+            Self::SystemOff2 { cookie, .. } => {
+                cookie.in_form(FunctionId::SystemOff232, FunctionId::SystemOff264)
+            }
+            Self::SystemReset => FunctionId::SystemReset,
+            Self::SystemReset2 { cookie, .. } => {
+                cookie.in_form(FunctionId::SystemReset232, FunctionId::SystemReset264)
+            }
+            Self::MemProtect { .. } => FunctionId::MemProtect,
+            Self::MemProtectCheckRange { range } => range.in_form(
                 FunctionId::MemProtectCheckRange32,
                 FunctionId::MemProtectCheckRange64,
-            )),
-            Self::Features { .. } => FunctionIdResult::Ok(FunctionId::PsciFeatures),
-            Self::CpuFreeze => FunctionIdResult::Ok(FunctionId::CpuFreeze),
-            Self::CpuDefaultSuspend { entry } => FunctionIdResult::Ok(forms::by_entry(
-                entry,
+            ),
+            Self::Features { .. } => FunctionId::PsciFeatures,
+            Self::CpuFreeze => FunctionId::CpuFreeze,
+            Self::CpuDefaultSuspend { entry } => entry.in_form(
                 FunctionId::CpuDefaultSuspend32,
                 FunctionId::CpuDefaultSuspend64,
-            )),
-            Self::NodeHwState { target_cpu, .. } => FunctionIdResult::Ok(forms::by_mpidr(
-                target_cpu,
-                FunctionId::NodeHwState32,
-                FunctionId::NodeHwState64,
-            )),
-            Self::SystemSuspend { entry } => FunctionIdResult::Ok(forms::by_entry(
-                entry,
-                FunctionId::SystemSuspend32,
-                FunctionId::SystemSuspend64,
-            )),
-            Self::SetSuspendMode { .. } => FunctionIdResult::Ok(FunctionId::PsciSetSuspendMode),
-            Self::StatResidency { target_cpu, .. } => FunctionIdResult::Ok(forms::by_mpidr(
-                target_cpu,
+            ),
+            Self::NodeHwState { target_cpu, .. } => {
+                target_cpu.in_form(FunctionId::NodeHwState32, FunctionId::NodeHwState64)
+            }
+            Self::SystemSuspend { entry } => {
+                entry.in_form(FunctionId::SystemSuspend32, FunctionId::SystemSuspend64)
+            }
+            Self::SetSuspendMode { .. } => FunctionId::PsciSetSuspendMode,
+            Self::StatResidency { target_cpu, .. } => target_cpu.in_form(
                 FunctionId::PsciStatResidency32,
                 FunctionId::PsciStatResidency64,
-            )),
-            Self::StatCount { target_cpu, .. } => FunctionIdResult::Ok(forms::by_mpidr(
-                target_cpu,
-                FunctionId::PsciStatCount32,
-                FunctionId::PsciStatCount64,
-            )),
-        }
+            ),
+            Self::StatCount { target_cpu, .. } => {
+                target_cpu.in_form(FunctionId::PsciStatCount32, FunctionId::PsciStatCount64)
+            }
+        };
+        Ok(function_id)
     }
 }

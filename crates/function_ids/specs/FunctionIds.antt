@@ -1,11 +1,8 @@
 -- Document 01, "The typed call": the 35 function numbers.
 use Rattle.std.specs.Prelude.{List, [], ◌∷◌, ℕ, ◌+◌, pos}
-use Rattle.answers.specs.Answers.{Answer, accepted, refused, choose}
-use Rattle.answers.specs.Errors.{refusal}
+use Rattle.answers.specs.Answers.{Answer, refused, choose}
 use Rattle.function_ids.specs.declared.FunctionId.{FunctionId}
 use Rattle.function_ids.specs.declared.FunctionId.TheVariants.{PsciVersion, CpuSuspend32, CpuSuspend64, CpuOff, CpuOn32, CpuOn64, AffinityInfo32, AffinityInfo64, Migrate32, Migrate64, MigrateInfoType, MigrateInfoUpCpu32, MigrateInfoUpCpu64, SystemOff, SystemReset, PsciFeatures, CpuFreeze, CpuDefaultSuspend32, CpuDefaultSuspend64, NodeHwState32, NodeHwState64, SystemSuspend32, SystemSuspend64, PsciSetSuspendMode, PsciStatResidency32, PsciStatResidency64, PsciStatCount32, PsciStatCount64, SystemReset232, SystemReset264, MemProtect, MemProtectCheckRange32, MemProtectCheckRange64, SystemOff232, SystemOff264}
-use Rattle.function_ids.specs.declared.FunctionIdResult.{FunctionIdResult}
-use Rattle.function_ids.specs.declared.FunctionIdResult.TheVariants.{Ok, Err}
 
 -- Number 0x84000000 + n is the 32-bit form, 0xc4000000 + n the 64-bit form.
 pub data Form : Type 0 where
@@ -69,7 +66,3 @@ functions =
 -- refusal 1: an unknown function number
 unfoldable pub read_function_id : ℕ → Answer FunctionId
 read_function_id word = choose function_number functions (refused 1 (pos word)) word
-
-abbrev pub function_id_answer : FunctionIdResult → Answer FunctionId
-function_id_answer (Ok f) = accepted f
-function_id_answer (Err e) = refusal e

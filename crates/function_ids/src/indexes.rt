@@ -6,6 +6,45 @@ ghost use Rattle.function_ids.specs.FunctionIndexes.{index_of, function_at};
 use crate::FunctionId;
 
 impl FunctionId {
+    // The functions in that order.
+    const RISING: [Self; 35] = [
+        Self::PsciVersion,
+        Self::CpuSuspend32,
+        Self::CpuOff,
+        Self::CpuOn32,
+        Self::AffinityInfo32,
+        Self::Migrate32,
+        Self::MigrateInfoType,
+        Self::MigrateInfoUpCpu32,
+        Self::SystemOff,
+        Self::SystemReset,
+        Self::PsciFeatures,
+        Self::CpuFreeze,
+        Self::CpuDefaultSuspend32,
+        Self::NodeHwState32,
+        Self::SystemSuspend32,
+        Self::PsciSetSuspendMode,
+        Self::PsciStatResidency32,
+        Self::PsciStatCount32,
+        Self::SystemReset232,
+        Self::MemProtect,
+        Self::MemProtectCheckRange32,
+        Self::SystemOff232,
+        Self::CpuSuspend64,
+        Self::CpuOn64,
+        Self::AffinityInfo64,
+        Self::Migrate64,
+        Self::MigrateInfoUpCpu64,
+        Self::CpuDefaultSuspend64,
+        Self::NodeHwState64,
+        Self::SystemSuspend64,
+        Self::PsciStatResidency64,
+        Self::PsciStatCount64,
+        Self::SystemReset264,
+        Self::MemProtectCheckRange64,
+        Self::SystemOff264,
+    ];
+
     // How many of the 35 functions have a smaller number: 0 to 34.
     #[tactic(auto, unfolding(crate::specs::FunctionIndexes::index_of))]
     pub fn index(self) -> u64
@@ -50,47 +89,11 @@ impl FunctionId {
         }
     }
 
-    // The function at an index, which is taken modulo 35: the last arm is that of 34.
+    // The function at an index, which is taken modulo 35.
     #[tactic(auto, unfolding(crate::specs::FunctionIndexes::function_at))]
     pub fn at_index(index: u64) -> Self
         ensures { result ≡ function_at index }
     {
-        match index % 35 {
-            0 => Self::PsciVersion,
-            1 => Self::CpuSuspend32,
-            2 => Self::CpuOff,
-            3 => Self::CpuOn32,
-            4 => Self::AffinityInfo32,
-            5 => Self::Migrate32,
-            6 => Self::MigrateInfoType,
-            7 => Self::MigrateInfoUpCpu32,
-            8 => Self::SystemOff,
-            9 => Self::SystemReset,
-            10 => Self::PsciFeatures,
-            11 => Self::CpuFreeze,
-            12 => Self::CpuDefaultSuspend32,
-            13 => Self::NodeHwState32,
-            14 => Self::SystemSuspend32,
-            15 => Self::PsciSetSuspendMode,
-            16 => Self::PsciStatResidency32,
-            17 => Self::PsciStatCount32,
-            18 => Self::SystemReset232,
-            19 => Self::MemProtect,
-            20 => Self::MemProtectCheckRange32,
-            21 => Self::SystemOff232,
-            22 => Self::CpuSuspend64,
-            23 => Self::CpuOn64,
-            24 => Self::AffinityInfo64,
-            25 => Self::Migrate64,
-            26 => Self::MigrateInfoUpCpu64,
-            27 => Self::CpuDefaultSuspend64,
-            28 => Self::NodeHwState64,
-            29 => Self::SystemSuspend64,
-            30 => Self::PsciStatResidency64,
-            31 => Self::PsciStatCount64,
-            32 => Self::SystemReset264,
-            33 => Self::MemProtectCheckRange64,
-            _ => Self::SystemOff264,
-        }
+        Self::RISING[(index % 35) as usize]
     }
 }

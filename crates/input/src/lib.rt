@@ -1,55 +1,29 @@
 // Reading of input that tells its end from a read that failed.
 #![tactic(auto)]
 
-ghost use Rattle.std.specs.Prelude.{◌≡◌, true, ◌≤◌, length};
 ghost use Rattle.input.specs.Reading.{Reading};
 
 use std::io::Read;
 
-// How many bytes were read, and whether a read failed after them.
-#[derive(Clone, Copy)]
-pub struct Input {
+// A read failed: so many bytes had been read before it.
+#[derive(Clone, Copy, Debug, PartialEq, Eq)]
+pub struct ReadFailed {
     pub size: usize,
-    pub failed: bool,
 }
 
-// One read to the lent bytes from an offset on: the offset after what it put there, and whether it failed.
-fn read_from<R: Read>(reader: &mut R, buf: &mut [u8], from: usize) -> Input
-    requires { from ≤ length buf.old }
-    ensures onward { from ≤ result.size }
-    ensures within { result.size ≤ length buf.old }
-    ensures failed_reads_nothing { result.failed ≡ true → result.size ≡ from }
-{
-    match reader.read(&mut buf[from..]) {
-        Ok(more) => Input {
-            size: from + more,
-            failed: false,
-        },
-        Err(_) => Input {
-            size: from,
-            failed: true,
-        },
-    }
-}
-
-// Reads to the front of the lent bytes until they are full, the input ends or a read fails. A read that a signal interrupts counts as one
-// that failed. What the contract leaves free stands in specs/Reading.antt.
-pub fn read_all<R: Read>(reader: &mut R, buf: &mut [u8]) -> Input
+// Reads to the front of the lent bytes until they are full, the input ends or a read fails, and gives how many bytes were read. A read that a
+// signal interrupts counts as one that failed. A loop and no `for`: each read says where the next begins. What the contract leaves free stands in
+// specs/Reading.antt.
+pub fn read_all<R: Read>(reader: &mut R, buf: &mut [u8]) -> Result<usize, ReadFailed>
     ensures { Reading buf.old buf.new result }
 {
     let mut size = 0;
     while size < buf.len() {
-        let next = read_from(reader, buf, size);
-        if next.failed {
-            return next;
+        match reader.read(&mut buf[size..]) {
+            Ok(0) => break,
+            Ok(more) => size += more,
+            Err(_) => return Err(ReadFailed { size }),
         }
-        if next.size == size {
-            break;
-        }
-        size = next.size;
     }
-    Input {
-        size,
-        failed: false,
-    }
+    Ok(size)
 }

@@ -1,7 +1,7 @@
 -- What writing nine words with leftovers gives; and what a caller in C is promised of the three functions together, proved in proofs/Restored.antt.
 use Rattle.std.specs.Prelude.{List, ◌≡◌, ℕ, length}
 use Rattle.answers.specs.Answers.{Answer, through, and_then}
-use Rattle.function.specs.declared.Function.{Function}
+use Rattle.function.specs.Functions.{Function}
 use Rattle.decode_definition.specs.Decode.{decode_of, decode_smccc}
 use Rattle.roundtrip.specs.Codec.{Registers}
 use Rattle.roundtrip.specs.Document01.{document01}

@@ -7,24 +7,26 @@ ghost use Rattle.record_line.specs.Errors.{line_refusal_number, line_refusal_val
 ghost use Rattle.record_line.specs.Line.{line_of};
 ghost use Rattle.line_exports.specs.Exports.{refused_line, told_line};
 
-use record_line::{LineError, LineResult};
+use record_line::LineError;
 
 // 0, and how many bytes of the lent run are the line; or a refusal's number, and what it carries. Two words, which C on x86-64 and on AArch64
 // gives back in registers: a longer struct goes through a pointer, and the two do not pass that alike.
 #[repr(C)]
-#[derive(Clone, Copy)]
+#[derive(Clone, Copy, Debug, PartialEq, Eq)]
 pub struct Written {
     pub number: u64,
     pub value: u64,
 }
 
-// A refusal as it is told: its number, and what it carries.
-fn refused_line(error: LineError) -> Written
-    ensures { result ≡ refused_line (line_refusal_number error) (line_refusal_value error) }
-{
-    Written {
-        number: error.number(),
-        value: error.value(),
+impl From<LineError> for Written {
+    ghost from_gives = { λ error written. written ≡ refused_line (line_refusal_number error) (line_refusal_value error) };
+
+    // A refusal as it is told, of every error: its number, which is not 0, and what it carries.
+    fn from(error: LineError) -> Self {
+        Self {
+            number: error.number(),
+            value: error.value(),
+        }
     }
 }
 
@@ -33,12 +35,11 @@ fn refused_line(error: LineError) -> Written
 pub fn psci_line(number: usize, regs: &[u64; 4], out: &mut [u8; 80]) -> Written
     ensures writes { Writes told_line (line_of number regs.now out.old) out.old result out.new }
 {
-    let r = *regs;
-    match record_line::line(number, r, out) {
-        LineResult::Ok(size) => Written {
+    match record_line::line(number, *regs, out) {
+        Ok(size) => Written {
             number: 0,
-            value: size as u64,
+            value: size as u64, // a `usize` has no `From` to a `u64`
         },
-        LineResult::Err(error) => refused_line(error),
+        Err(error) => Written::from(error),
     }
 }

@@ -1,9 +1,9 @@
-// Document 01, "The call log and its sheet": numbers and words as text, each put into a lent run at an offset. Where a text of the greatest
-// length has no room nothing is written, and the offset is given back.
+// Document 01, "The call log and its sheet": numbers, words and bytes as text, each put into a lent run at an offset. Where a text of the greatest
+// length has no room nothing is written, and the offset stays.
 #![tactic(auto)]
 
-ghost use Rattle.std.specs.Prelude.{◌≡◌, ◌∷◌, ◌++◌, ◌+◌, ◌-◌, ◌≤◌};
-ghost use Rattle.answers.specs.Lent.{WroteInRoom};
+ghost use Rattle.std.specs.Prelude.{MatchBool, ◌∷◌, ◌++◌, ◌+◌, ◌≤◌, ◌<◌, length};
+ghost use Rattle.number_text.specs.Put.{PutInRoom};
 ghost use Rattle.number_text.specs.Text.{space, decimal, word_text, words_text};
 
 pub mod digits;
@@ -18,47 +18,57 @@ const PAIR_ROOM: usize = 37;
 // Four words, each after a space.
 const WORDS_ROOM: usize = 68;
 
-// How many offsets of a run have so many bytes from them on.
-fn offsets(lent: usize, room: usize) -> usize
-    requires { 1 ≤ room }
-    ensures { result ≡ lent + 1 - room }
-{
-    if lent < room {
-        return 0;
-    }
-    lent - room + 1
+// A lent run, and the offset of what is put into it next. Any offset will do: past the end of the run, or near it, nothing has room.
+#[derive(Drop)]
+pub struct Writer<'a> {
+    pub out: &'a mut [u8],
+    pub at: usize,
 }
 
-// A number in decimal, with no 0 in front; of any number, where 20 bytes are there.
-pub fn put_decimal(out: &mut [u8], at: usize, n: u64) -> usize
-    ensures { WroteInRoom 20 out.old at (decimal n) out.new result }
-{
-    if offsets(out.len(), MOST_DIGITS) <= at {
-        return at;
+impl<'a> Writer<'a> {
+    // Whether so many bytes are there from the offset on. In this order the first test is one that a caller has often made (docs/BENCHMARKS.md).
+    fn has_room(&self, size: usize) -> bool
+        ensures { MatchBool result (self.now.at + size ≤ length self.now.out.now) (length self.now.out.now < self.now.at + size) }
+    {
+        size <= self.out.len() && self.at <= self.out.len() - size
     }
-    text::put_digits(out, at, n, MOST_DIGITS)
-}
 
-// A number in decimal, then a space and the 16 hexadecimal digits of a word, where 37 bytes are there.
-pub fn put_pair(out: &mut [u8], at: usize, n: u64, word: u64) -> usize
-    ensures { WroteInRoom 37 out.old at (decimal n ++ (space ∷ word_text word)) out.new result }
-{
-    if offsets(out.len(), PAIR_ROOM) <= at {
-        return at;
+    // Some bytes as they are, where all of them have room.
+    #[tactic(auto, using(crate::proofs::Putting::copied, crate::proofs::Putting::had_room))]
+    pub fn put<const N: usize>(&mut self, bytes: [u8; N])
+        ensures { PutInRoom N self.old bytes.entry self.new }
+    {
+        if self.has_room(N) {
+            self.out[self.at..self.at + N].copy_from_slice(&bytes);
+            self.at += N;
+        }
     }
-    let second = text::put_digits(out, at, n, MOST_DIGITS);
-    text::put_word(out, second, word)
-}
 
-// Four words, each after a space, where 68 bytes are there.
-pub fn put_words(out: &mut [u8], at: usize, words: [u64; 4]) -> usize
-    ensures { WroteInRoom 68 out.old at (words_text words) out.new result }
-{
-    if offsets(out.len(), WORDS_ROOM) <= at {
-        return at;
+    // A number in decimal, with no 0 in front; of any number, where 20 bytes are there.
+    pub fn put_decimal(&mut self, n: u64)
+        ensures { PutInRoom 20 self.old (decimal n) self.new }
+    {
+        if self.has_room(MOST_DIGITS) {
+            self.at = text::put_digits(self.out, self.at, n);
+        }
     }
-    let a = text::put_word(out, at, words[0]);
-    let b = text::put_word(out, a, words[1]);
-    let c = text::put_word(out, b, words[2]);
-    text::put_word(out, c, words[3])
+
+    // A number in decimal, then a space and the 16 hexadecimal digits of a word, where 37 bytes are there.
+    pub fn put_pair(&mut self, n: u64, word: u64)
+        ensures { PutInRoom 37 self.old (decimal n ++ (space ∷ word_text word)) self.new }
+    {
+        if self.has_room(PAIR_ROOM) {
+            let second = text::put_digits(self.out, self.at, n);
+            self.at = text::put_word(self.out, second, word);
+        }
+    }
+
+    // Four words, each after a space, where 68 bytes are there.
+    pub fn put_words(&mut self, words: [u64; 4])
+        ensures { PutInRoom 68 self.old (words_text words) self.new }
+    {
+        if self.has_room(WORDS_ROOM) {
+            self.at = text::put_words(self.out, self.at, words);
+        }
+    }
 }

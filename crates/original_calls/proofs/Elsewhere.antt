@@ -1,77 +1,182 @@
--- Outside the six numbers the codec is document 01's. Assumes nothing.
-use mathlib.Core.Path.{◌≡◌, refl, sym, ap, ◌∙◌}
+-- Outside the six numbers the codec is document 01's: there a register set is decoded to a call that has no power state, and such a call is among the
+-- calls of every format. Assumes nothing.
+use mathlib.Core.Path.{◌≡◌, refl, sym, ap}
+use mathlib.Core.Bool.{Bool, true, false, cond}
 use mathlib.Core.List.{List}
-use mathlib.Core.Logic.{⊎_elim}
-use lib.ListN.{get_or}
 use Prim.Native.Nat.{ℕ}
-use Rattle.answers.specs.Answers.{Answer, accepted, refused}
-use Rattle.answers.proofs.Answering.{came_then, came_through}
-use Rattle.function_ids.specs.FunctionIds.{function_number}
+use lib.Dec.{leb}
+use lib.IntN.{pos}
+use Rattle.answers.specs.Answers.{Answer, accepted, refused, through, and_then}
+use Rattle.answers.proofs.Answering.{through_twice}
+use Rattle.function_ids.specs.FunctionIds.{Form, narrow, wide, function_number, read_function_id}
 use Rattle.function_ids.specs.declared.FunctionId.{FunctionId}
-use Rattle.function_ids.specs.CallTable.{number_in, kept01}
-use Rattle.words.specs.OriginalPowerStates.{original_power_state_of, read_original_power_state}
-use Rattle.words.specs.declared.power_states.PowerState.TheVariants.{PowerDown}
+use Rattle.function_ids.specs.declared.FunctionId.TheVariants as id
+use Rattle.function_ids.specs.CallTable.{Kind, mpidr, level, feature, mode, reset_type, off_type, Part, rule_of, look_of_number, number_in, kept_set, value_in}
+use Rattle.function_ids.proofs.FunctionIdLaws.{function_number_is}
+use Rattle.words.specs.Mpidrs.{read_mpidr32, read_mpidr64}
+use Rattle.words.specs.PsciFeatures.{read_feature}
+use Rattle.words.specs.ResetTypes.{read_reset_type}
+use Rattle.words.specs.SuspendModes.{read_suspend_mode}
+use Rattle.words.specs.SystemOff2Types.{read_system_off2_type}
+use Rattle.words.specs.declared.mpidrs.Mpidr.{Mpidr}
 use Rattle.words.specs.declared.original_power_states.OriginalPowerState.{OriginalPowerState}
+use Rattle.function.specs.Forms.{in_form, entry_form, mpidr_form}
 use Rattle.function.specs.Functions.{function_id_of}
-use Rattle.function.specs.declared.Function.{Function}
-use Rattle.decode_definition.specs.Decode.{decode_of}
-use Rattle.encode_definition.specs.Arguments.{arguments_of}
-use Rattle.encode_definition.specs.Encode.{words_of}
-use Rattle.roundtrip.specs.Codec.{Registers}
-use Rattle.roundtrip.proofs.TwoCodecs.{by_table_of_01}
-use Rattle.original_calls.specs.OriginalFunctions.{function_of, with_state, original_id_of}
-use Rattle.original_calls.specs.OriginalCalls.{original_decode_of, original_arguments_of, original_words_of}
-use Rattle.original_calls.specs.TwoFormats.{WithoutState, Same}
-use Rattle.original_calls.specs.declared.original_function.StatelessFunction.{StatelessFunction}
-use Rattle.original_calls.specs.declared.original_function.OriginalFunction.{OriginalFunction}
-use Rattle.original_calls.specs.declared.original_function.OriginalFunction.TheVariants.{CpuSuspend, StatResidency, StatCount, Other}
-use Rattle.original_calls.proofs.DecodeLaws.{with_word, outside_by}
-use Rattle.original_calls.proofs.Sorts.{suspend, residency, count, IsOther, sort, state_number}
+use Rattle.function.specs.States.{with_state}
+use Rattle.function.specs.declared.Call.{Call}
+use Rattle.function.specs.declared.Call.TheVariants.{Version, CpuSuspend, CpuOff, CpuOn, AffinityInfo, Migrate, MigrateInfoType, MigrateInfoUpCpu, SystemOff, SystemOff2, SystemReset, SystemReset2, MemProtect, MemProtectCheckRange, Features, CpuFreeze, CpuDefaultSuspend, NodeHwState, SystemSuspend, SetSuspendMode, StatResidency, StatCount}
+use Rattle.decode_definition.specs.RefusalOrders.{affinity_info}
+use Rattle.decode_definition.specs.Decode.{call_of, call_in, decode_by}
+use Rattle.encode_definition.specs.Arguments.{arguments_by}
+use Rattle.encode_definition.specs.Encode.{words_by}
+use Rattle.original_calls.specs.OriginalFunctions.{OriginalFunction, StatelessFunction, among, function_of, original_of}
+use Rattle.original_calls.specs.TwoFormats.{WithoutState}
 
--- the function number of a call that a set was decoded as is the set's
-number_is : (r : List ℕ) (g : Function) → Registers r → decode_of r ≡ accepted g → (f : FunctionId) × ((function_id_of g ≡ accepted f) × (function_number f ≡ number_in r))
-unfolding words_of
-number_is r g h d =
-    let o = came_then (function_id_of g) _ (kept01 r) (by_table_of_01.writes r g h d) in
-    let p = came_through _ (arguments_of g) (kept01 r) o.1.1 in
-    (o.0, (o.1.0, ap (λ (w : List ℕ). get_or w 0 0) p.1.1))
+-- a reader that no word passes: there is no state to give
+abbrev pub never : ℕ → Answer ⊥
+never word = refused 0 (pos 0)
 
--- the power state of the word 0
-abbrev pub zero_state : OriginalPowerState
-zero_state = original_power_state_of 0 0 0
+-- ---- decoding
 
-pub with_zero : (g : Function) → with_word (accepted g) 0 ≡ accepted (with_state g zero_state)
-unfolding read_original_power_state
-with_zero g = refl
+module _ {S : Type 0} (read : ℕ → Answer S) where
+  level_among : (most lowest : ℕ) (m : Answer Mpidr) → ◌≡◌ {A = Answer (Call S)} (affinity_info most lowest m) (through among (affinity_info most lowest m))
+  level_among most lowest m = tested (leb lowest most)
+    where
+      tested : (t : Bool) → ◌≡◌ {A = Answer (Call S)} (cond t (through (λ x. AffinityInfo x lowest) m) (refused 5 (pos lowest)))
+          (through among (cond t (through (λ x. AffinityInfo x lowest) m) (refused 5 (pos lowest))))
+      tested true = sym (through_twice _ among m)
+      tested false = refl
 
--- outside, what document 01 accepts has no power state
-pub outside_other : (r : List ℕ) (g : Function) → Registers r → WithoutState (number_in r) → decode_of r ≡ accepted g → IsOther g
-outside_other r g h o d =
-    let n = number_is r g h d in
-    ⊎_elim (λ has. absurd (state_number n.0 has n.1.0 (rw n.1.1 o))) (λ other. other) (sort g)
+  -- a function that has no power state has the same call in every format
+  row_among : (f : FunctionId) (the : Kind → ℕ) → WithoutState (function_number f) → call_of read f the ≡ through among (call_of never f the)
+  row_among id.PsciVersion the o = refl
+  row_among id.CpuSuspend32 the o = absurd (o.0 refl)
+  row_among id.CpuSuspend64 the o = absurd (o.1.0 refl)
+  row_among id.CpuOff the o = refl
+  row_among id.CpuOn32 the o = sym (through_twice _ among (read_mpidr32 (the mpidr)))
+  row_among id.CpuOn64 the o = sym (through_twice _ among (read_mpidr64 (the mpidr)))
+  row_among id.AffinityInfo32 the o = level_among 2 (the level) (read_mpidr32 (the mpidr))
+  row_among id.AffinityInfo64 the o = level_among 3 (the level) (read_mpidr64 (the mpidr))
+  row_among id.Migrate32 the o = sym (through_twice _ among (read_mpidr32 (the mpidr)))
+  row_among id.Migrate64 the o = sym (through_twice _ among (read_mpidr64 (the mpidr)))
+  row_among id.MigrateInfoType the o = refl
+  row_among id.MigrateInfoUpCpu32 the o = refl
+  row_among id.MigrateInfoUpCpu64 the o = refl
+  row_among id.SystemOff the o = refl
+  row_among id.SystemReset the o = refl
+  row_among id.PsciFeatures the o = sym (through_twice _ among (read_feature (the feature)))
+  row_among id.CpuFreeze the o = refl
+  row_among id.CpuDefaultSuspend32 the o = refl
+  row_among id.CpuDefaultSuspend64 the o = refl
+  row_among id.NodeHwState32 the o = sym (through_twice _ among (read_mpidr32 (the mpidr)))
+  row_among id.NodeHwState64 the o = sym (through_twice _ among (read_mpidr64 (the mpidr)))
+  row_among id.SystemSuspend32 the o = refl
+  row_among id.SystemSuspend64 the o = refl
+  row_among id.PsciSetSuspendMode the o = sym (through_twice _ among (read_suspend_mode (the mode)))
+  row_among id.PsciStatResidency32 the o = absurd (o.1.1.0 refl)
+  row_among id.PsciStatResidency64 the o = absurd (o.1.1.1.0 refl)
+  row_among id.PsciStatCount32 the o = absurd (o.1.1.1.1.0 refl)
+  row_among id.PsciStatCount64 the o = absurd (o.1.1.1.1.1.0 refl)
+  row_among id.SystemReset232 the o = sym (through_twice _ among (read_reset_type (the reset_type)))
+  row_among id.SystemReset264 the o = sym (through_twice _ among (read_reset_type (the reset_type)))
+  row_among id.MemProtect the o = refl
+  row_among id.MemProtectCheckRange32 the o = refl
+  row_among id.MemProtectCheckRange64 the o = refl
+  row_among id.SystemOff232 the o = sym (through_twice _ among (read_system_off2_type (the off_type)))
+  row_among id.SystemOff264 the o = sym (through_twice _ among (read_system_off2_type (the off_type)))
 
-pub decoded : (r : List ℕ) → Registers r → WithoutState (number_in r) → Same (original_decode_of r) (decode_of r)
-decoded r h o = by (decode_of r) refl
-  where
-    by : (x : Answer Function) → decode_of r ≡ x → Same (original_decode_of r) (decode_of r)
-    by (refused number value) e =
-        record { both = refused number value; of_here = sym (outside_by r o) ∙ ap (λ (x : Answer Function). with_word x 0) e; of_there = e }
-    by (accepted g) e =
-        let k = outside_other r g h o e in
-        record {
-          both = accepted k.same;
-          of_here = sym (outside_by r o) ∙ ap (λ (x : Answer Function). with_word x 0) e ∙ with_zero g ∙ ap accepted (k.taken zero_state);
-          of_there = e ∙ ap accepted (sym k.back);
-        }
+  number_among : (n : ℕ) (the : Kind → ℕ) → WithoutState n → (x : Answer FunctionId) → read_function_id n ≡ x →
+      and_then x (λ f. call_of read f the) ≡ through among (and_then x (λ f. call_of never f the))
+  number_among n the o (accepted f) e = row_among f the (rw (function_number_is n f e) o)
+  number_among n the o (refused number value) e = refl
 
-pub encoded : (g : StatelessFunction) → original_words_of (Other g) ≡ words_of (function_of g)
-unfolding original_words_of original_id_of original_arguments_of words_of
-encoded g = refl
+  -- and so has a register set, whichever part of r1 memory protect looks at
+  pub set_among : (protect : Part) (r : List ℕ) → WithoutState (number_in r) → decode_by read protect r ≡ through among (decode_by never protect r)
+  unfolding decode_by call_in
+  set_among protect r o =
+      number_among (number_in r) (value_in (rule_of (number_in r)).fields (kept_set (look_of_number protect) r)) o (read_function_id (number_in r)) refl
 
--- a call with an original power state has the number of document 01's with any of its own
-pub other : (f : OriginalFunction) (g : FunctionId) → original_id_of f ≡ accepted g → WithoutState (function_number g) → (h : StatelessFunction) × (f ≡ Other h)
-unfolding original_id_of function_id_of
-other (CpuSuspend s e) g q o = absurd (state_number g (suspend (PowerDown 0) e) q o)
-other (StatResidency m s) g q o = absurd (state_number g (residency m (PowerDown 0)) q o)
-other (StatCount m s) g q o = absurd (state_number g (count m (PowerDown 0)) q o)
-other (Other h) g q o = (h, refl)
+-- ---- the 19 calls
+
+pub own : (g : StatelessFunction) (s : OriginalPowerState) → with_state (function_of g) s ≡ original_of g
+own Version s = refl
+own CpuOff s = refl
+own (CpuOn x y) s = refl
+own (AffinityInfo x y) s = refl
+own (Migrate x) s = refl
+own MigrateInfoType s = refl
+own (MigrateInfoUpCpu x) s = refl
+own SystemOff s = refl
+own (SystemOff2 x y) s = refl
+own SystemReset s = refl
+own (SystemReset2 x y) s = refl
+own (MemProtect x) s = refl
+own (MemProtectCheckRange x) s = refl
+own (Features x) s = refl
+own CpuFreeze s = refl
+own (CpuDefaultSuspend x) s = refl
+own (NodeHwState x y) s = refl
+own (SystemSuspend x) s = refl
+own (SetSuspendMode x) s = refl
+own (CpuSuspend x y) s = absurd x
+own (StatResidency x y) s = absurd y
+own (StatCount x y) s = absurd y
+
+-- the words of such a call are the same by every writer
+module _ {A B : Type 0} (write : A → Answer ℕ) (other : B → Answer ℕ) where
+  pub written_among : (g : StatelessFunction) → words_by write (among g) ≡ words_by other (among g)
+  unfolding words_by arguments_by function_id_of
+  written_among Version = refl
+  written_among CpuOff = refl
+  written_among (CpuOn x y) = refl
+  written_among (AffinityInfo x y) = refl
+  written_among (Migrate x) = refl
+  written_among MigrateInfoType = refl
+  written_among (MigrateInfoUpCpu x) = refl
+  written_among SystemOff = refl
+  written_among (SystemOff2 x y) = refl
+  written_among SystemReset = refl
+  written_among (SystemReset2 x y) = refl
+  written_among (MemProtect x) = refl
+  written_among (MemProtectCheckRange x) = refl
+  written_among (Features x) = refl
+  written_among CpuFreeze = refl
+  written_among (CpuDefaultSuspend x) = refl
+  written_among (NodeHwState x y) = refl
+  written_among (SystemSuspend x) = refl
+  written_among (SetSuspendMode x) = refl
+  written_among (CpuSuspend x y) = absurd x
+  written_among (StatResidency x y) = absurd y
+  written_among (StatCount x y) = absurd y
+
+-- ---- a call that has a power state has one of the six numbers
+
+-- a number in one of two forms is none of some only if neither form's is among them
+either_form : (form : Form) (x y f : FunctionId) → accepted (in_form form x y) ≡ accepted f → (function_number f ≡ function_number x → ⊥) → (function_number f ≡ function_number y → ⊥) → ⊥
+either_form narrow x y f e a b = a (let s : f ≡ x = cc in ap function_number s)
+either_form wide x y f e a b = b (let s : f ≡ y = cc in ap function_number s)
+
+pub other : (f : OriginalFunction) (n : FunctionId) → function_id_of f ≡ accepted n → WithoutState (function_number n) → (g : StatelessFunction) × (f ≡ original_of g)
+unfolding function_id_of
+other (CpuSuspend s e) n q o = absurd (either_form (entry_form e) id.CpuSuspend32 id.CpuSuspend64 n q o.0 o.1.0)
+other (StatResidency m s) n q o = absurd (either_form (mpidr_form m.aff3) id.PsciStatResidency32 id.PsciStatResidency64 n q o.1.1.0 o.1.1.1.0)
+other (StatCount m s) n q o = absurd (either_form (mpidr_form m.aff3) id.PsciStatCount32 id.PsciStatCount64 n q o.1.1.1.1.0 o.1.1.1.1.1.0)
+other Version n e o = (Version, refl)
+other CpuOff n e o = (CpuOff, refl)
+other (CpuOn x y) n e o = (CpuOn x y, refl)
+other (AffinityInfo x y) n e o = (AffinityInfo x y, refl)
+other (Migrate x) n e o = (Migrate x, refl)
+other MigrateInfoType n e o = (MigrateInfoType, refl)
+other (MigrateInfoUpCpu x) n e o = (MigrateInfoUpCpu x, refl)
+other SystemOff n e o = (SystemOff, refl)
+other (SystemOff2 x y) n e o = (SystemOff2 x y, refl)
+other SystemReset n e o = (SystemReset, refl)
+other (SystemReset2 x y) n e o = (SystemReset2 x y, refl)
+other (MemProtect x) n e o = (MemProtect x, refl)
+other (MemProtectCheckRange x) n e o = (MemProtectCheckRange x, refl)
+other (Features x) n e o = (Features x, refl)
+other CpuFreeze n e o = (CpuFreeze, refl)
+other (CpuDefaultSuspend x) n e o = (CpuDefaultSuspend x, refl)
+other (NodeHwState x y) n e o = (NodeHwState x y, refl)
+other (SystemSuspend x) n e o = (SystemSuspend x, refl)
+other (SetSuspendMode x) n e o = (SetSuspendMode x, refl)

@@ -7,14 +7,13 @@ use Rattle.words.specs.PowerStates.{read_power_state}
 use Rattle.words.specs.OriginalPowerStates.{read_original_power_state, write_original_power_state}
 use Rattle.words.specs.ResetTypes.{write_reset_type}
 use Rattle.function.specs.Functions.{function_id_of}
-use Rattle.decode_definition.specs.Decode.{call_in, decode_by, decode_of}
-use Rattle.encode_definition.specs.Arguments.{arguments_of}
-use Rattle.original_calls.specs.OriginalFunctions.{function_of, with_state, original_id_of}
-use Rattle.original_calls.specs.OriginalCalls.{original_call_in, original_decode_of, original_arguments_of, original_words_of}
+use Rattle.decode_definition.specs.Decode.{call_in, decode_by}
+use Rattle.encode_definition.specs.Arguments.{arguments_by}
+use Rattle.encode_definition.specs.Encode.{words_by}
 use Rattle.original_calls.specs.OriginalCases.{OriginalCases}
 
 pub original_cases : OriginalCases
-unfolding call_in decode_by decode_of rule_of read_function_id read_mpidr32 read_mpidr64 write_mpidr64 read_power_state write_reset_type function_id_of arguments_of read_original_power_state write_original_power_state function_of with_state original_id_of original_call_in original_decode_of original_arguments_of original_words_of
+unfolding call_in decode_by rule_of read_function_id read_mpidr32 read_mpidr64 write_mpidr64 read_power_state write_reset_type function_id_of arguments_by words_by read_original_power_state write_original_power_state
 original_cases = record {
   full = refl;
   full_written = refl;

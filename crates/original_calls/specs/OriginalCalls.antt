@@ -1,56 +1,25 @@
 -- Document 02, Change 1: decoding and encoding for boards that are set to the original power state, "as 01's but for the power states of suspend,
--- residency and count". The table of calls and every other reader and writer are document 01's. TwoFormats.antt says what differs, row by row.
-use Rattle.std.specs.Prelude.{cond, List, [], ◌∷◌, ℕ, get_or}
-use Rattle.answers.specs.Answers.{Answer, through, and_then}
-use Rattle.function_ids.specs.FunctionIds.{read_function_id}
+-- residency and count": document 01's by the reader and the writer of the original format. TwoFormats.antt says what differs, row by row.
+use Rattle.std.specs.Prelude.{List, ℕ}
+use Rattle.answers.specs.Answers.{Answer}
 use Rattle.function_ids.specs.declared.FunctionId.{FunctionId}
-use Rattle.function_ids.specs.CallTable.{Kind, power_state, is_same_kind, rule_of, kept01, value_in}
-use Rattle.words.specs.Mpidrs.{write_mpidr64}
-use Rattle.words.specs.EntryPoints.{entry_address, entry_context}
+use Rattle.function_ids.specs.CallTable.{Kind, whole}
 use Rattle.words.specs.OriginalPowerStates.{read_original_power_state, write_original_power_state}
-use Rattle.words.specs.declared.original_power_states.OriginalPowerState.{OriginalPowerState}
-use Rattle.function.specs.declared.Function.{Function}
-use Rattle.decode_definition.specs.Decode.{call_of}
-use Rattle.encode_definition.specs.Arguments.{arguments_of}
-use Rattle.encode_definition.specs.Encode.{with_number, in_four}
-use Rattle.original_calls.specs.OriginalFunctions.{function_of, with_state, original_id_of}
-use Rattle.original_calls.specs.declared.original_function.OriginalFunction.{OriginalFunction}
-use Rattle.original_calls.specs.declared.original_function.OriginalFunction.TheVariants.{CpuSuspend, StatResidency, StatCount, Other}
+use Rattle.decode_definition.specs.Decode.{call_of, decode_by}
+use Rattle.encode_definition.specs.Encode.{words_by, in_four}
+use Rattle.original_calls.specs.OriginalFunctions.{OriginalFunction}
 
--- ---- decoding
-
--- a call of document 01's with a power state as it was read: the call's refusal first
-abbrev pub in_state : Answer Function → Answer OriginalPowerState → Answer OriginalFunction
-in_state call state = and_then call (λ f. through (with_state f) state)
-
--- the values of the fields, with 0 for the power state: a word that document 01 accepts
-abbrev pub stateless : (Kind → ℕ) → Kind → ℕ
-stateless the kind = cond (is_same_kind kind power_state) 0 (the kind)
-
--- the call of a function, from the value of each kind of field: what document 01 says of the other fields, then the power state, with refusal 26 in
--- the place of 2. Where no power state is listed its value is 0, which is accepted and not used
+-- the call of a function, from the value of each kind of field: refusal 26 of the power state in the place of 2
 abbrev pub original_call_of : FunctionId → (Kind → ℕ) → Answer OriginalFunction
-original_call_of id the = in_state (call_of id (stateless the)) (read_original_power_state (the power_state))
+original_call_of id the = call_of read_original_power_state id the
 
--- refusal 1 first, as document 01
-unfoldable pub original_call_in : List ℕ → Answer OriginalFunction
-original_call_in words = and_then (read_function_id (get_or words 0 0)) (λ id. original_call_of id (value_in (rule_of (get_or words 0 0)).fields words))
+-- memory protect looks at all of r1, as in document 01
+abbrev pub original_decode_of : List ℕ → Answer OriginalFunction
+original_decode_of regs = decode_by read_original_power_state whole regs
 
-unfoldable pub original_decode_of : List ℕ → Answer OriginalFunction
-original_decode_of regs = original_call_in (kept01 regs)
-
--- ---- encoding
-
--- words 1 to 3: refusal 27 of the power state's writer in the place of 15
-unfoldable pub original_arguments_of : OriginalFunction → Answer (List ℕ)
-original_arguments_of (CpuSuspend state entry) = through (λ w. w ∷ entry_address entry ∷ entry_context entry ∷ []) (write_original_power_state state)
-original_arguments_of (StatResidency mpidr state) = through (λ w. write_mpidr64 mpidr ∷ w ∷ 0 ∷ []) (write_original_power_state state)
-original_arguments_of (StatCount mpidr state) = through (λ w. write_mpidr64 mpidr ∷ w ∷ 0 ∷ []) (write_original_power_state state)
-original_arguments_of (Other f) = arguments_of (function_of f)
-
--- the four words; the number's refusal, 14, comes first, as in document 01
-unfoldable pub original_words_of : OriginalFunction → Answer (List ℕ)
-original_words_of f = with_number (original_id_of f) (original_arguments_of f)
+-- the four words: refusal 27 of the power state's writer in the place of 15; the number's refusal, 14, comes first, as in document 01
+abbrev pub original_words_of : OriginalFunction → Answer (List ℕ)
+original_words_of f = words_by write_original_power_state f
 
 -- for a lent run, 17 before all others, as in document 01
 abbrev pub original_encode_of : OriginalFunction → List ℕ → Answer (List ℕ)

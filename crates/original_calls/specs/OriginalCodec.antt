@@ -5,8 +5,8 @@ use Rattle.answers.specs.Answers.{Answer}
 use Rattle.function_ids.specs.CallTable.{look01}
 use Rattle.roundtrip.specs.Codec.{Codec, recode_by, ByTable, Demand3}
 use Rattle.roundtrip.specs.Leftovers.{Leftovers}
+use Rattle.original_calls.specs.OriginalFunctions.{OriginalFunction}
 use Rattle.original_calls.specs.OriginalCalls.{original_decode_of, original_words_of}
-use Rattle.original_calls.specs.declared.original_function.OriginalFunction.{OriginalFunction}
 
 abbrev pub original : Codec
 original = record { Call = OriginalFunction; decode = original_decode_of; words = original_words_of; look = look01 }

@@ -19,17 +19,15 @@ use Rattle.words.specs.declared.power_states.PowerState.{PowerState}
 use Rattle.words.specs.declared.power_states.PowerState.TheVariants.{StandbyOrRetention, PowerDown}
 use Rattle.words.specs.declared.original_power_states.OriginalPowerState.{OriginalPowerState}
 use Rattle.function.specs.Forms.{in_form, entry_form, mpidr_form}
-use Rattle.function.specs.declared.Function.{Function}
-use Rattle.function.specs.declared.Function.TheVariants as of01
+use Rattle.function.specs.Functions.{Function}
+use Rattle.function.specs.States.{with_state}
+use Rattle.function.specs.declared.Call.TheVariants.{CpuSuspend, StatResidency, StatCount}
 use Rattle.decode_definition.specs.RefusalOrders.{of_core_state}
 use Rattle.decode_definition.specs.Decode.{call_of, decode_of}
 use Rattle.encode_definition.specs.Encode.{with_number, words_of}
 use Rattle.roundtrip.specs.Codec.{Registers}
-use Rattle.original_calls.specs.OriginalFunctions.{function_of, with_state, original_id_of}
+use Rattle.original_calls.specs.OriginalFunctions.{OriginalFunction, StatelessFunction, function_of, original_of, original_id_of}
 use Rattle.original_calls.specs.OriginalCalls.{original_call_of, original_decode_of, original_words_of}
-use Rattle.original_calls.specs.declared.original_function.StatelessFunction.{StatelessFunction}
-use Rattle.original_calls.specs.declared.original_function.OriginalFunction.{OriginalFunction}
-use Rattle.original_calls.specs.declared.original_function.OriginalFunction.TheVariants.{CpuSuspend, StatResidency, StatCount, Other}
 
 -- 1. The word: its fields, what is refused when it is read, and what when it is written.
 pub record TheWord : Type 0 where
@@ -46,17 +44,17 @@ pub record TheWord : Type 0 where
 -- 2. Decoding: the six rows that have a power state, each beside document 01's. In residency and count the MPIDR is refused first.
 pub record SixRows (the : Kind → ℕ) : Type 0 where
   pub suspend32 : original_call_of id.CpuSuspend32 the ≡ through (λ s. CpuSuspend s (Entry32 (the entry) (the context))) (read_original_power_state (the power_state))
-  pub suspend32_01 : call_of id.CpuSuspend32 the ≡ through (λ s. of01.CpuSuspend s (Entry32 (the entry) (the context))) (read_power_state (the power_state))
+  pub suspend32_01 : call_of read_power_state id.CpuSuspend32 the ≡ through (λ s. CpuSuspend s (Entry32 (the entry) (the context))) (read_power_state (the power_state))
   pub suspend64 : original_call_of id.CpuSuspend64 the ≡ through (λ s. CpuSuspend s (Entry64 (the entry) (the context))) (read_original_power_state (the power_state))
-  pub suspend64_01 : call_of id.CpuSuspend64 the ≡ through (λ s. of01.CpuSuspend s (Entry64 (the entry) (the context))) (read_power_state (the power_state))
+  pub suspend64_01 : call_of read_power_state id.CpuSuspend64 the ≡ through (λ s. CpuSuspend s (Entry64 (the entry) (the context))) (read_power_state (the power_state))
   pub residency32 : original_call_of id.PsciStatResidency32 the ≡ of_core_state StatResidency (read_mpidr32 (the mpidr)) (read_original_power_state (the power_state))
-  pub residency32_01 : call_of id.PsciStatResidency32 the ≡ of_core_state of01.StatResidency (read_mpidr32 (the mpidr)) (read_power_state (the power_state))
+  pub residency32_01 : call_of read_power_state id.PsciStatResidency32 the ≡ of_core_state StatResidency (read_mpidr32 (the mpidr)) (read_power_state (the power_state))
   pub residency64 : original_call_of id.PsciStatResidency64 the ≡ of_core_state StatResidency (read_mpidr64 (the mpidr)) (read_original_power_state (the power_state))
-  pub residency64_01 : call_of id.PsciStatResidency64 the ≡ of_core_state of01.StatResidency (read_mpidr64 (the mpidr)) (read_power_state (the power_state))
+  pub residency64_01 : call_of read_power_state id.PsciStatResidency64 the ≡ of_core_state StatResidency (read_mpidr64 (the mpidr)) (read_power_state (the power_state))
   pub count32 : original_call_of id.PsciStatCount32 the ≡ of_core_state StatCount (read_mpidr32 (the mpidr)) (read_original_power_state (the power_state))
-  pub count32_01 : call_of id.PsciStatCount32 the ≡ of_core_state of01.StatCount (read_mpidr32 (the mpidr)) (read_power_state (the power_state))
+  pub count32_01 : call_of read_power_state id.PsciStatCount32 the ≡ of_core_state StatCount (read_mpidr32 (the mpidr)) (read_power_state (the power_state))
   pub count64 : original_call_of id.PsciStatCount64 the ≡ of_core_state StatCount (read_mpidr64 (the mpidr)) (read_original_power_state (the power_state))
-  pub count64_01 : call_of id.PsciStatCount64 the ≡ of_core_state of01.StatCount (read_mpidr64 (the mpidr)) (read_power_state (the power_state))
+  pub count64_01 : call_of read_power_state id.PsciStatCount64 the ≡ of_core_state StatCount (read_mpidr64 (the mpidr)) (read_power_state (the power_state))
 
 -- 3. Encoding: the same function number, and the same words around what the format's writer gives.
 -- words 1 to 3 around a power state's word: in register 1 before an entry, in register 2 after an MPIDR
@@ -74,7 +72,7 @@ pub record Alike (number : FunctionId) (around : ℕ → List ℕ) (f : Original
 -- 4. Nothing else: a call in both types, or one refusal.
 pub record Same (here : Answer OriginalFunction) (there : Answer Function) : Type 0 where
   pub both : Answer StatelessFunction
-  pub of_here : here ≡ through Other both
+  pub of_here : here ≡ through original_of both
   pub of_there : there ≡ through function_of both
 
 -- a function number whose call has no power state
@@ -85,17 +83,17 @@ pub record TwoFormats : Type 0 where
   pub the_word : TheWord
   pub six_rows : (the : Kind → ℕ) → SixRows the
   pub suspend : (s : OriginalPowerState) (old : PowerState) (e : EntryPoint) →
-      Alike (in_form (entry_form e) id.CpuSuspend32 id.CpuSuspend64) (before_entry e) (CpuSuspend s e) s (of01.CpuSuspend old e) old
+      Alike (in_form (entry_form e) id.CpuSuspend32 id.CpuSuspend64) (before_entry e) (CpuSuspend s e) s (CpuSuspend old e) old
   pub residency : (s : OriginalPowerState) (old : PowerState) (m : Mpidr) →
-      Alike (in_form (mpidr_form m.aff3) id.PsciStatResidency32 id.PsciStatResidency64) (after_mpidr m) (StatResidency m s) s (of01.StatResidency m old) old
+      Alike (in_form (mpidr_form m.aff3) id.PsciStatResidency32 id.PsciStatResidency64) (after_mpidr m) (StatResidency m s) s (StatResidency m old) old
   pub count : (s : OriginalPowerState) (old : PowerState) (m : Mpidr) →
-      Alike (in_form (mpidr_form m.aff3) id.PsciStatCount32 id.PsciStatCount64) (after_mpidr m) (StatCount m s) s (of01.StatCount m old) old
+      Alike (in_form (mpidr_form m.aff3) id.PsciStatCount32 id.PsciStatCount64) (after_mpidr m) (StatCount m s) s (StatCount m old) old
   -- six function numbers have a power state
   pub six_numbers : numbers_with power_state call_table ≡ 0x84000001 ∷ 0xc4000001 ∷ 0x84000010 ∷ 0xc4000010 ∷ 0x84000011 ∷ 0xc4000011 ∷ []
-  -- the other 19 calls go to document 01's and come back as they were
-  pub own : (g : StatelessFunction) (s : OriginalPowerState) → with_state (function_of g) s ≡ Other g
+  -- the other 19 calls go to document 01's and come back as they were, whatever the power state
+  pub own : (g : StatelessFunction) (s : OriginalPowerState) → with_state (function_of g) s ≡ original_of g
   -- outside of the six numbers a register set is decoded as by document 01
   pub decoded : (regs : List ℕ) → Registers regs → WithoutState (number_in regs) → Same (original_decode_of regs) (decode_of regs)
   -- and a call with such a number is one of the 19, and is encoded as by document 01
-  pub other : (f : OriginalFunction) (n : FunctionId) → original_id_of f ≡ accepted n → WithoutState (function_number n) → (g : StatelessFunction) × (f ≡ Other g)
-  pub encoded : (g : StatelessFunction) → original_words_of (Other g) ≡ words_of (function_of g)
+  pub other : (f : OriginalFunction) (n : FunctionId) → original_id_of f ≡ accepted n → WithoutState (function_number n) → (g : StatelessFunction) × (f ≡ original_of g)
+  pub encoded : (g : StatelessFunction) → original_words_of (original_of g) ≡ words_of (function_of g)

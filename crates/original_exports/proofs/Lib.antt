@@ -1,2 +1,1 @@
-pub mod OriginalAskedLaws
 pub mod OriginalNineWordsLaws

@@ -1,125 +1,221 @@
-// The operations by their numbers. oracle/harness/src/lib.rs has those of an answer of the Rust under the same names, and says what each reads.
+// The operations by their numbers. oracle/harness/src/lib.rs has those of an answer of the Rust, and says what each reads.
+use answers::told::Refusal;
 
-pub(crate) const DECODE: u64 = 0;
+// Which decoder: document 01's, Change 2's, or Change 1's of the original power state.
+#[derive(Clone, Copy, Debug, PartialEq, Eq)]
+pub(crate) enum Decoder {
+    Document01,
+    Smccc,
+    Original,
+}
 
-pub(crate) const ENCODE: u64 = 1;
+// The format of a power state: document 01's, or Change 1's.
+#[derive(Clone, Copy, Debug, PartialEq, Eq)]
+pub(crate) enum Format {
+    Extended,
+    Original,
+}
 
-pub(crate) const FUNCTION_ID: u64 = 2;
+// What reads a single word: r0, or its low half.
+#[derive(Clone, Copy, Debug, PartialEq, Eq)]
+pub(crate) enum Reader {
+    FunctionId,
+    ReturnCode,
+    ErrorCode,
+    ErrorCode32,
+    ErrorCode64,
+    Version,
+    PowerState,
+    Mpidr32,
+    Mpidr64,
+    MpidrRegister,
+    OffType,
+    Architectural,
+    ResetType,
+    Feature,
+    HwState,
+    SuspendMode,
+    // An MPIDR of the low bytes of the registers.
+    FromAff3210,
+    FromAff210,
+    OriginalPowerState,
+}
 
-pub(crate) const DECODE_SMCCC: u64 = 3;
+// What writes a single word.
+#[derive(Clone, Copy, Debug, PartialEq, Eq)]
+pub(crate) enum Writer {
+    FunctionId,
+    ReturnCode,
+    ErrorCode,
+    ErrorCode32,
+    ErrorCode64,
+    Version,
+    PowerState,
+    Mpidr32,
+    Mpidr64,
+    OffType,
+    Architectural,
+    ResetType,
+    Feature,
+    HwState,
+    SuspendMode,
+    // A refusal to its error code.
+    ErrorToCode,
+    EntryAddress,
+    EntryContext,
+    OriginalPowerState,
+}
 
-// Those of Change 1 are this one, the next two, and the two that read and write an original power state.
-pub(crate) const DECODE_ORIGINAL: u64 = 4;
+#[derive(Clone, Copy, Debug, PartialEq, Eq)]
+pub(crate) enum Op {
+    Decode(Decoder),
+    Encode(Format),
+    FunctionId(Format),
+    // Those of Change 7.
+    DecodeWithLeftovers(Decoder),
+    EncodeWithLeftovers(Format),
+    Read(Reader),
+    Write(Writer),
+    // Many words to one reader or decoder.
+    Sweep,
+    // Those that only a labelled record has: a heading, which is a label alone; a call written to a lent run, whose length is what the record
+    // carries; and, each by the function that is exported to C, the three recodes of four registers and the line of a record, whose number stands for
+    // the tag.
+    Heading,
+    Lent(Format),
+    Recode(Decoder),
+    Line,
+}
 
-pub(crate) const ENCODE_ORIGINAL: u64 = 5;
+// The words that an answer gives, in the place of those that were asked.
+#[derive(Clone, Copy, Debug, PartialEq, Eq)]
+pub(crate) enum Given {
+    Nine,
+    // Nine words, and the leftovers in the place of the registers.
+    NineAndLeftovers,
+    Four,
+    // Four words in the place of the leftovers.
+    FourOverLeftovers,
+    One,
+}
 
-pub(crate) const FUNCTION_ID_ORIGINAL: u64 = 6;
+impl Op {
+    // The decoders and the readers give nine words, encode gives four registers, a function number or a single word is one.
+    pub(crate) fn given(self) -> Given {
+        match self {
+            Self::Decode(_) | Self::Read(_) => Given::Nine,
+            Self::DecodeWithLeftovers(_) => Given::NineAndLeftovers,
+            Self::Encode(_) => Given::Four,
+            Self::EncodeWithLeftovers(_) => Given::FourOverLeftovers,
+            _ => Given::One,
+        }
+    }
 
-// Those of Change 7 are this one and the next four.
-pub(crate) const DECODE_WITH_LEFTOVERS: u64 = 7;
+    // Whether a sweep may ask it: a decoder without leftovers, or a reader of one word.
+    pub(crate) fn is_swept(self) -> bool {
+        match self {
+            Self::Decode(_) => true,
+            Self::Read(reader) => reader != Reader::FromAff3210 && reader != Reader::FromAff210,
+            _ => false,
+        }
+    }
+}
 
-pub(crate) const DECODE_SMCCC_WITH_LEFTOVERS: u64 = 8;
+// No operation has this number, or none that is asked.
+#[derive(Clone, Copy, Debug, PartialEq, Eq)]
+pub(crate) struct UnknownOperation(pub(crate) u64);
 
-pub(crate) const DECODE_ORIGINAL_WITH_LEFTOVERS: u64 = 9;
+// Its refusal, which carries the number, beside those of call_exports and the papers'.
+const UNKNOWN_OPERATION: u64 = 1001;
 
-pub(crate) const ENCODE_WITH_LEFTOVERS: u64 = 10;
+impl From<UnknownOperation> for Refusal {
+    fn from(operation: UnknownOperation) -> Self {
+        Self {
+            number: UNKNOWN_OPERATION,
+            carried: operation.0,
+        }
+    }
+}
 
-pub(crate) const ENCODE_ORIGINAL_WITH_LEFTOVERS: u64 = 11;
+// The numbers from here on are those of writers: also a number that no operation has is shown as one of these, or as one of the others.
+const FIRST_WRITER: u64 = 48;
 
-pub(crate) const READ_FUNCTION_ID: u64 = 16;
+impl UnknownOperation {
+    // What is shown of it: as of a decoder or a reader, or as of a writer.
+    pub(crate) fn given(self) -> Given {
+        if self.0 < FIRST_WRITER {
+            Given::Nine
+        } else {
+            Given::One
+        }
+    }
+}
 
-pub(crate) const READ_RETURN_CODE: u64 = 17;
+impl TryFrom<u64> for Op {
+    type Error = UnknownOperation;
 
-pub(crate) const READ_ERROR_CODE: u64 = 18;
-
-pub(crate) const READ_ERROR_CODE_32: u64 = 19;
-
-pub(crate) const READ_ERROR_CODE_64: u64 = 20;
-
-pub(crate) const READ_VERSION: u64 = 21;
-
-pub(crate) const READ_POWER_STATE: u64 = 22;
-
-pub(crate) const READ_MPIDR_32: u64 = 23;
-
-pub(crate) const READ_MPIDR_64: u64 = 24;
-
-pub(crate) const READ_MPIDR_REGISTER: u64 = 25;
-
-pub(crate) const READ_OFF_TYPE: u64 = 26;
-
-pub(crate) const READ_ARCHITECTURAL: u64 = 27;
-
-pub(crate) const READ_RESET_TYPE: u64 = 28;
-
-pub(crate) const READ_FEATURE: u64 = 29;
-
-pub(crate) const READ_HW_STATE: u64 = 30;
-
-pub(crate) const READ_SUSPEND_MODE: u64 = 31;
-
-// An MPIDR of the low bytes of the registers.
-pub(crate) const FROM_AFF3210: u64 = 32;
-
-pub(crate) const FROM_AFF210: u64 = 33;
-
-pub(crate) const READ_POWER_STATE_ORIGINAL: u64 = 34;
-
-pub(crate) const WRITE_FUNCTION_ID: u64 = 48;
-
-pub(crate) const WRITE_RETURN_CODE: u64 = 49;
-
-pub(crate) const WRITE_ERROR_CODE: u64 = 50;
-
-pub(crate) const WRITE_ERROR_CODE_32: u64 = 51;
-
-pub(crate) const WRITE_ERROR_CODE_64: u64 = 52;
-
-pub(crate) const WRITE_VERSION: u64 = 53;
-
-pub(crate) const WRITE_POWER_STATE: u64 = 54;
-
-pub(crate) const WRITE_MPIDR_32: u64 = 55;
-
-pub(crate) const WRITE_MPIDR_64: u64 = 56;
-
-pub(crate) const WRITE_OFF_TYPE: u64 = 57;
-
-pub(crate) const WRITE_ARCHITECTURAL: u64 = 58;
-
-pub(crate) const WRITE_RESET_TYPE: u64 = 59;
-
-pub(crate) const WRITE_FEATURE: u64 = 60;
-
-pub(crate) const WRITE_HW_STATE: u64 = 61;
-
-pub(crate) const WRITE_SUSPEND_MODE: u64 = 62;
-
-// A refusal to its error code.
-pub(crate) const ERROR_TO_CODE: u64 = 63;
-
-pub(crate) const ENTRY_ADDRESS: u64 = 64;
-
-pub(crate) const ENTRY_CONTEXT: u64 = 65;
-
-pub(crate) const WRITE_POWER_STATE_ORIGINAL: u64 = 66;
-
-// Many words to one reader or decoder.
-pub(crate) const SWEEP: u64 = 2000;
-
-// Operations that only a labelled record has: a heading, which is a label alone; a call written to a lent run, whose length is what the record carries,
-// by document 01 or with an original power state; and, each by the function that is exported to C, the three recodes of four registers and the line of
-// a record, whose number stands for the tag.
-pub(crate) const HEADING: u64 = 3000;
-
-pub(crate) const LENT: u64 = 3001;
-
-pub(crate) const LENT_ORIGINAL: u64 = 3002;
-
-pub(crate) const RECODE: u64 = 3003;
-
-pub(crate) const RECODE_SMCCC: u64 = 3004;
-
-pub(crate) const RECODE_ORIGINAL: u64 = 3005;
-
-pub(crate) const LINE: u64 = 3006;
+    fn try_from(number: u64) -> Result<Self, UnknownOperation> {
+        let op = match number {
+            0 => Self::Decode(Decoder::Document01),
+            1 => Self::Encode(Format::Extended),
+            2 => Self::FunctionId(Format::Extended),
+            3 => Self::Decode(Decoder::Smccc),
+            4 => Self::Decode(Decoder::Original),
+            5 => Self::Encode(Format::Original),
+            6 => Self::FunctionId(Format::Original),
+            7 => Self::DecodeWithLeftovers(Decoder::Document01),
+            8 => Self::DecodeWithLeftovers(Decoder::Smccc),
+            9 => Self::DecodeWithLeftovers(Decoder::Original),
+            10 => Self::EncodeWithLeftovers(Format::Extended),
+            11 => Self::EncodeWithLeftovers(Format::Original),
+            16 => Self::Read(Reader::FunctionId),
+            17 => Self::Read(Reader::ReturnCode),
+            18 => Self::Read(Reader::ErrorCode),
+            19 => Self::Read(Reader::ErrorCode32),
+            20 => Self::Read(Reader::ErrorCode64),
+            21 => Self::Read(Reader::Version),
+            22 => Self::Read(Reader::PowerState),
+            23 => Self::Read(Reader::Mpidr32),
+            24 => Self::Read(Reader::Mpidr64),
+            25 => Self::Read(Reader::MpidrRegister),
+            26 => Self::Read(Reader::OffType),
+            27 => Self::Read(Reader::Architectural),
+            28 => Self::Read(Reader::ResetType),
+            29 => Self::Read(Reader::Feature),
+            30 => Self::Read(Reader::HwState),
+            31 => Self::Read(Reader::SuspendMode),
+            32 => Self::Read(Reader::FromAff3210),
+            33 => Self::Read(Reader::FromAff210),
+            34 => Self::Read(Reader::OriginalPowerState),
+            48 => Self::Write(Writer::FunctionId),
+            49 => Self::Write(Writer::ReturnCode),
+            50 => Self::Write(Writer::ErrorCode),
+            51 => Self::Write(Writer::ErrorCode32),
+            52 => Self::Write(Writer::ErrorCode64),
+            53 => Self::Write(Writer::Version),
+            54 => Self::Write(Writer::PowerState),
+            55 => Self::Write(Writer::Mpidr32),
+            56 => Self::Write(Writer::Mpidr64),
+            57 => Self::Write(Writer::OffType),
+            58 => Self::Write(Writer::Architectural),
+            59 => Self::Write(Writer::ResetType),
+            60 => Self::Write(Writer::Feature),
+            61 => Self::Write(Writer::HwState),
+            62 => Self::Write(Writer::SuspendMode),
+            63 => Self::Write(Writer::ErrorToCode),
+            64 => Self::Write(Writer::EntryAddress),
+            65 => Self::Write(Writer::EntryContext),
+            66 => Self::Write(Writer::OriginalPowerState),
+            2000 => Self::Sweep,
+            3000 => Self::Heading,
+            3001 => Self::Lent(Format::Extended),
+            3002 => Self::Lent(Format::Original),
+            3003 => Self::Recode(Decoder::Document01),
+            3004 => Self::Recode(Decoder::Smccc),
+            3005 => Self::Recode(Decoder::Original),
+            3006 => Self::Line,
+            _ => return Err(UnknownOperation(number)),
+        };
+        Ok(op)
+    }
+}

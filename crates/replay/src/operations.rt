@@ -1,28 +1,17 @@
 // The answer to a record, an arm for each operation of a call; those that read and write a single word are in readers.rt and writers.rt.
-use crate::calls::{
-    decode_original_record, decode_record, decode_smccc_record, encode_original_record,
-    encode_record, function_id_record, original_function_id_record,
-};
-use crate::records::{Record, unknown_operation};
-use crate::{leftovers, op, readers, writers};
+use crate::op::Op;
+use crate::records::Record;
+use crate::{calls, leftovers, readers, writers};
 
-pub(crate) fn answer(q: Record) -> Record {
-    let operation = q.operation;
-    match operation {
-        op::DECODE => decode_record(q),
-        op::ENCODE => encode_record(q),
-        op::FUNCTION_ID => function_id_record(q),
-        op::DECODE_SMCCC => decode_smccc_record(q),
-        op::DECODE_ORIGINAL => decode_original_record(q),
-        op::ENCODE_ORIGINAL => encode_original_record(q),
-        op::FUNCTION_ID_ORIGINAL => original_function_id_record(q),
-        op::DECODE_WITH_LEFTOVERS => leftovers::decode_record(q),
-        op::DECODE_SMCCC_WITH_LEFTOVERS => leftovers::decode_smccc_record(q),
-        op::DECODE_ORIGINAL_WITH_LEFTOVERS => leftovers::decode_original_record(q),
-        op::ENCODE_WITH_LEFTOVERS => leftovers::encode_record(q),
-        op::ENCODE_ORIGINAL_WITH_LEFTOVERS => leftovers::encode_original_record(q),
-        op::READ_FUNCTION_ID..=op::READ_POWER_STATE_ORIGINAL => readers::answer(q),
-        op::WRITE_FUNCTION_ID..=op::WRITE_POWER_STATE_ORIGINAL => writers::answer(q),
-        _ => unknown_operation(q),
+pub(crate) fn answer(op: Op, q: Record) -> Record {
+    match op {
+        Op::Decode(decoder) => calls::decoded(decoder, q),
+        Op::Encode(format) => calls::encoded(format, q),
+        Op::FunctionId(format) => calls::numbered(format, q),
+        Op::DecodeWithLeftovers(decoder) => leftovers::decoded(decoder, q),
+        Op::EncodeWithLeftovers(format) => leftovers::encoded(format, q),
+        Op::Read(reader) => readers::answer(reader, q),
+        Op::Write(writer) => writers::answer(writer, q),
+        Op::Sweep | Op::Heading | Op::Lent(_) | Op::Recode(_) | Op::Line => q.unknown_operation(),
     }
 }

@@ -8,13 +8,13 @@ use Rattle.words.specs.Versions.{read_version}
 use Rattle.words.specs.PowerStates.{read_power_state}
 use Rattle.words.specs.ResetTypes.{read_architectural_reset_type, read_reset_type}
 use Rattle.function.specs.Functions.{function_id_of}
-use Rattle.decode_definition.specs.Decode.{call_in, decode_by, decode_of}
-use Rattle.encode_definition.specs.Arguments.{arguments_of}
-use Rattle.encode_definition.specs.Encode.{words_of}
+use Rattle.decode_definition.specs.Decode.{call_in, decode_by}
+use Rattle.encode_definition.specs.Arguments.{arguments_by}
+use Rattle.encode_definition.specs.Encode.{words_by}
 use Rattle.roundtrip.specs.Cases.{Cases}
 
 pub cases : Cases
-unfolding call_in decode_by decode_of rule_of read_function_id read_mpidr32 read_mpidr64 write_mpidr64 read_power_state read_architectural_reset_type read_reset_type read_version read_error_code read_error_code64 function_id_of arguments_of words_of
+unfolding call_in decode_by rule_of read_function_id read_mpidr32 read_mpidr64 write_mpidr64 read_power_state read_architectural_reset_type read_reset_type read_version read_error_code read_error_code64 function_id_of arguments_by words_by
 cases = record {
   m1_reads = refl;
   m1_writes = refl;

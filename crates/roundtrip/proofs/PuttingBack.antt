@@ -9,6 +9,8 @@ use lib.Dec.{eqb}
 use lib.IntN.{ℤ, pos}
 use lib.ListN.{length, get_or, set}
 use borrow.Author.Tests.{eq-eqb, ne_eqb}
+use Rattle.std.specs.Prelude.{Result, Ok, Err, OnOk, ⊤}
+use Rattle.answers.specs.declared.Error.{Error}
 use Rattle.answers.specs.Answers.{Answer, accepted, refused, through, and_then}
 use Rattle.answers.specs.Lent.{Writes, itself, left}
 use Rattle.answers.proofs.Answering.{not_accepted, same_accepted}
@@ -16,8 +18,6 @@ use Rattle.answers.proofs.Lending.{fronted_all, turned_back, put_down}
 use Rattle.encode_definition.specs.Encode.{in_four}
 use Rattle.encode_definition.proofs.Laws.{run_of_four}
 use Rattle.encode.specs.Answers.{encode_answer}
-use Rattle.encode.specs.declared.EncodeResult.{EncodeResult}
-use Rattle.encode.specs.declared.EncodeResult.TheVariants.{Ok, Err}
 use Rattle.roundtrip.specs.Codec.{Codec, reworded_by}
 use Rattle.roundtrip.specs.Leftovers.{xor_each, or_else, zeros, leftovers_by}
 use Rattle.roundtrip.proofs.LeftoverLaws.{each_zero}
@@ -25,8 +25,8 @@ use Rattle.roundtrip.proofs.LeftoverLaws.{each_zero}
 -- ---- beside what a decoder answered
 
 -- what encoding leaves of four zeros: the words, or the zeros
-pub words_or_zeros : (words : Answer (List ℕ)) (said : EncodeResult) (last : List ℕ) → Writes itself (in_four words zeros) zeros (encode_answer said last) last → last ≡ or_else zeros words
-words_or_zeros (accepted words) Ok last w = same_accepted w.says
+pub words_or_zeros : (words : Answer (List ℕ)) (said : Result ⊤ Error) (last : List ℕ) → Writes itself (in_four words zeros) zeros (encode_answer said last) last → last ≡ or_else zeros words
+words_or_zeros (accepted words) (Ok u) last w = same_accepted w.says
 words_or_zeros (accepted words) (Err e) last w = not_accepted w.says
 words_or_zeros (refused number value) said last w = w.leaves
 
@@ -61,7 +61,7 @@ four_put leftovers (p ∷ q ∷ r ∷ s ∷ []) h = refl
 four_put leftovers (p ∷ q ∷ r ∷ s ∷ t ∷ u) h = absurd (omega arith)
 
 -- what `put_back` gives, by the case that it is in
-module _ (said : EncodeResult) (leftovers run : List ℕ) where
+module _ (said : Result ⊤ Error) (leftovers run : List ℕ) where
   abbrev pub PutBack : Answer (List ℕ) → List ℕ → Type 0
   PutBack answer last = Writes itself (with_leftovers leftovers (in_four (encode_answer said run) run)) run answer last
 
@@ -72,8 +72,8 @@ module _ (said : EncodeResult) (leftovers run : List ℕ) where
     pub nothing_put : {number : ℕ} {value : ℤ} → encode_answer said run ≡ refused number value → PutBack (refused number value) run
     nothing_put e = turned_back itself (simp (eq-eqb (length run) 4 h, e))
 
-    pub all_put : (last : List ℕ) → said ≡ Ok → last ≡ put_word leftovers (put_word leftovers (put_word leftovers (put_word leftovers run 0) 1) 2) 3 → PutBack (accepted last) last
-    all_put last ok e =
+    pub all_put : (last : List ℕ) → {u : ⊤} → said ≡ Ok u → last ≡ put_word leftovers (put_word leftovers (put_word leftovers (put_word leftovers run 0) 1) 2) 3 → PutBack (accepted last) last
+    all_put last {u} ok e =
         let x : last ≡ xor_each run leftovers = e ∙ four_put leftovers run h in
         put_down itself (simp (eq-eqb (length run) 4 h, ok) (ap accepted (sym x))) (sym (fronted_all last run (ap length x ∙ sym h)))
 
@@ -83,7 +83,7 @@ tested_twice true x y = refl
 tested_twice false x y = refl
 
 -- after encoding: each word exclusive-or its leftover, or encoding's refusal
-module _ (words : Answer (List ℕ)) (leftovers run mid : List ℕ) (said : EncodeResult) (l : length mid ≡ length run) (first : Writes itself (in_four words run) run (encode_answer said mid) mid) where
+module _ (words : Answer (List ℕ)) (leftovers run mid : List ℕ) (said : Result ⊤ Error) (l : length mid ≡ length run) (first : Writes itself (in_four words run) run (encode_answer said mid) mid) where
   again : in_four (encode_answer said mid) mid ≡ in_four words run
   again =
       ap (λ (a : Answer (List ℕ)). in_four a mid) first.says

@@ -1,11 +1,10 @@
 -- Document 01, "Registers and words to try": the cases marked M, as one statement about the definitions.
-use Rattle.std.specs.Prelude.{◌≡◌, true, List, [], ◌∷◌, ℕ, pos}
+use Rattle.std.specs.Prelude.{◌≡◌, true, List, [], ◌∷◌, ℕ, pos, Some}
 use Rattle.bits.specs.Signs.{signed, word_of}
 use Rattle.answers.specs.Answers.{accepted, refused}
 use Rattle.codes.specs.Codes.{code_number, read_error_code, read_error_code64}
 use Rattle.codes.specs.declared.ErrorCode.TheVariants.{InvalidAddress}
 use Rattle.words.specs.Mpidrs.{mpidr_of}
-use Rattle.words.specs.declared.mpidrs.Aff3.TheVariants.{Some}
 use Rattle.words.specs.Versions.{version_of, read_version}
 use Rattle.words.specs.PowerStates.{read_power_state}
 use Rattle.words.specs.declared.power_states.PowerState.TheVariants.{PowerDown}
@@ -13,8 +12,8 @@ use Rattle.words.specs.ResetTypes.{read_reset_type}
 use Rattle.words.specs.declared.reset_types.ArchitecturalResetType.TheVariants.{SystemWarmReset}
 use Rattle.words.specs.declared.reset_types.ResetType.TheVariants.{Architectural, VendorSpecific}
 use Rattle.words.specs.declared.entry_points.EntryPoint.TheVariants.{Entry64}
-use Rattle.function.specs.declared.Function.{Function}
-use Rattle.function.specs.declared.Function.TheVariants.{Version, CpuOff, CpuOn, AffinityInfo, MemProtect}
+use Rattle.function.specs.Functions.{Function}
+use Rattle.function.specs.declared.Call.TheVariants.{Version, CpuOff, CpuOn, AffinityInfo, MemProtect}
 use Rattle.decode_definition.specs.Decode.{decode_of}
 use Rattle.encode_definition.specs.Encode.{words_of}
 

@@ -14,6 +14,10 @@ pub record Codec : Type 1 where
   pub words : Call → Answer (List ℕ)
   pub look : ℕ → ℕ → Look
 
+-- the same of its parts, as the code's trait has them
+abbrev pub codec_of : {Call : Type 0} → (List ℕ → Answer Call) → (Call → Answer (List ℕ)) → (ℕ → ℕ → Look) → Codec
+codec_of {Call} decode words look = record { Call = Call; decode = decode; words = words; look = look }
+
 -- registers of 64 bits
 pub record Registers (r : List ℕ) : Type 0 where
   pub fits : (i : ℕ) → get_or r i 0 < 2 ^ 64

@@ -3,7 +3,7 @@
 use Rattle.std.specs.Prelude.{List, ℕ}
 use Rattle.answers.specs.Answers.{Answer}
 use Rattle.function_ids.specs.CallTable.{look_smccc}
-use Rattle.function.specs.declared.Function.{Function}
+use Rattle.function.specs.Functions.{Function}
 use Rattle.decode_definition.specs.Decode.{decode_smccc}
 use Rattle.encode_definition.specs.Encode.{words_of}
 use Rattle.roundtrip.specs.Codec.{Codec, recode_by, ByTable, Demand3}

@@ -1,7 +1,7 @@
 -- Document 02, Change 2: the cases of its decoder, as one statement about the definitions.
 use Rattle.std.specs.Prelude.{◌≡◌, Bool, true, false, [], ◌∷◌, ℕ}
 use Rattle.answers.specs.Answers.{accepted}
-use Rattle.function.specs.declared.Function.TheVariants.{MemProtect}
+use Rattle.function.specs.declared.Call.TheVariants.{MemProtect}
 use Rattle.decode_definition.specs.Decode.{decode_smccc}
 use Rattle.roundtrip.specs.Cases.{EncodesTo}
 

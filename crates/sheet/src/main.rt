@@ -1,5 +1,5 @@
 // Reads a call log from standard input and prints its sheet. What the sheet is, and that it is written so, is sheet_text's part. A log
-// that could not be read to its end has no sheet: a line on standard error says so.
+// that could not be read to its end has no sheet: a line on standard error says so. The program leftovers says why the two share no function.
 #![tactic(auto)]
 
 use input::read_all;
@@ -15,11 +15,8 @@ fn print_sheet(rt: &impl Print, log: &[u8]) -> io::Result<()> {
 fn main(rt: HostRuntime) -> io::Result<()> {
     // A log is at most 64,601 bytes long: 65,536 show that one is longer.
     let mut log = [0u8; 65536];
-    let read = read_all(&mut rt.stdin(), &mut log);
-    if read.failed {
-        rt.eprintln("sheet: standard input could not be read")
-    } else {
-        let size = read.size;
-        print_sheet(&rt, &log[..size])
+    match read_all(&mut rt.stdin(), &mut log) {
+        Ok(size) => print_sheet(&rt, &log[..size]),
+        Err(_) => rt.eprintln("sheet: standard input could not be read"),
     }
 }

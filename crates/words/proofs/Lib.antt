@@ -1,3 +1,4 @@
+pub mod Flags
 pub mod MpidrHalves
 pub mod MpidrLaws
 pub mod MpidrWords

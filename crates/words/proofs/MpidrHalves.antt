@@ -7,13 +7,13 @@ use native.Mathlib.Nat.{div-one}
 use native.Mathlib.Omega.{arith}
 use lib.Bits.{bit_and, bit_or, and_block}
 use lib.Dec.{lit<}
+use Rattle.std.specs.Prelude.{Some}
 use Rattle.bits.specs.Bits.{◌for◌, get, only}
 use Rattle.bits.specs.Halves.{register_of}
 use Rattle.bits.specs.declared.halves.Halves.{Halves}
 use Rattle.bits.proofs.HalfLaws.{low_field, high_field, none_in_parts, some_in_parts, complements}
 use Rattle.bits.proofs.Masks.{field_kept, none_outside, some_outside}
 use Rattle.words.specs.Mpidrs.{mpidr_of, mpidr64, fields64, mbz_bits64, mbz_halves64}
-use Rattle.words.specs.declared.mpidrs.Aff3.TheVariants.{Some}
 
 -- the masks of the halves are the two halves of MBZ_BITS_64
 pub mbz_halves : register_of mbz_halves64 ≡ mbz_bits64

@@ -6,6 +6,7 @@ use lib.Dec.{eqb, lit<}
 use lib.IntN.{pos}
 use lib.ListN.{get_or}
 use borrow.Author.Tests.{eqb-true}
+use Rattle.std.specs.Prelude.{Option, None, Some}
 use Rattle.bits.specs.Bits.{◌for◌, bits, cut_to, only}
 use Rattle.answers.specs.Answers.{accepted}
 use Rattle.answers.specs.Inverses.{WritesBack, ReadsBack, always, Word32, Word64}
@@ -13,8 +14,6 @@ use Rattle.answers.proofs.Answering.{passed}
 use Rattle.answers.proofs.FieldWords.{Put, read_put, fields_write, fields_read}
 use Rattle.words.specs.MpidrLaws.{Without3, With3}
 use Rattle.words.specs.Mpidrs.{mpidr_of, mpidr32, mpidr64, fields32, fields64, low_word, aff3_number, read_mpidr32, read_mpidr64, write_mpidr32, write_mpidr64}
-use Rattle.words.specs.declared.mpidrs.Aff3.{Aff3}
-use Rattle.words.specs.declared.mpidrs.Aff3.TheVariants.{None, Some}
 use Rattle.words.specs.declared.mpidrs.Mpidr.{Mpidr}
 
 -- the core addresses that the values of the fields make
@@ -73,7 +72,7 @@ unfolding write_mpidr64
 written64 m word h q =
     let byte : ℕ = h.1.0 in
     let e : m.aff3 ≡ Some byte = h.1.1.1 in
-    let p : write_mpidr64 (mpidr_of m.aff0 m.aff1 m.aff2 (Some byte)) ≡ write_mpidr64 m = ap (λ (a : Aff3). write_mpidr64 (mpidr_of m.aff0 m.aff1 m.aff2 a)) (sym e) in
+    let p : write_mpidr64 (mpidr_of m.aff0 m.aff1 m.aff2 (Some byte)) ≡ write_mpidr64 m = ap (λ (a : Option ℕ). write_mpidr64 (mpidr_of m.aff0 m.aff1 m.aff2 a)) (sym e) in
     let w : write_mpidr64 m ≡ word = cc in
     (m.aff0 ∷ m.aff1 ∷ m.aff2 ∷ byte ∷ [], ((h.0.0, (h.0.1, (h.0.2, (h.1.1.0, tt)))), (p ∙ w, ap (mpidr_of m.aff0 m.aff1 m.aff2) (sym e))))
 

@@ -1,11 +1,8 @@
 -- Document 01, "Single words": hardware state: 0, 1, 2.
 use Rattle.std.specs.Prelude.{List, [], ◌∷◌, ℕ, pos}
 use Rattle.answers.specs.Answers.{Answer, accepted, refused, choose}
-use Rattle.answers.specs.Errors.{refusal}
 use Rattle.words.specs.declared.hw_states.HwState.{HwState}
 use Rattle.words.specs.declared.hw_states.HwState.TheVariants.{On, Off, Standby}
-use Rattle.words.specs.declared.hw_states.HwStateResult.{HwStateResult}
-use Rattle.words.specs.declared.hw_states.HwStateResult.TheVariants.{Ok, Err}
 
 abbrev pub hw_state_number : HwState → ℕ
 hw_state_number On = 0
@@ -17,7 +14,3 @@ hw_states = On ∷ Off ∷ Standby ∷ []
 
 unfoldable pub read_hw_state : ℕ → Answer HwState
 read_hw_state word = choose hw_state_number hw_states (refused 12 (pos word)) word
-
-abbrev pub hw_state_answer : HwStateResult → Answer HwState
-hw_state_answer (Ok s) = accepted s
-hw_state_answer (Err e) = refusal e

@@ -1,11 +1,10 @@
 -- Document 01, "Single words": what each reader of MPIDR accepts writes back, and what each writer gives reads back; the exceptions that the
 -- paper implies stand behind that. Document 02, Change 4: the masks of a register's halves.
-use Rattle.std.specs.Prelude.{◌≡◌, ℕ, ◌^◌, ◌<◌}
+use Rattle.std.specs.Prelude.{◌≡◌, ℕ, ◌^◌, ◌<◌, None, Some}
 use Rattle.answers.specs.Answers.{accepted}
 use Rattle.answers.specs.Inverses.{WritesBack, ReadsBack, always, Word32, Word64}
 use Rattle.bits.specs.Halves.{register_of}
 use Rattle.words.specs.Mpidrs.{mpidr_of, read_mpidr32, read_mpidr64, write_mpidr32, write_mpidr64, mbz_bits64, mbz_halves64}
-use Rattle.words.specs.declared.mpidrs.Aff3.TheVariants.{None, Some}
 use Rattle.words.specs.declared.mpidrs.Mpidr.{Mpidr}
 
 -- the values that the fields of a struct can have

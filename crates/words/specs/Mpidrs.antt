@@ -1,16 +1,11 @@
 -- MPIDR: affinity 0, 1, 2 are bits 0–7, 8–15, 16–23; affinity 3 is bits 32–39 and absent in the 32-bit form. Other bits must be zero.
-use Rattle.std.specs.Prelude.{cond, List, [], ◌∷◌, ℕ, ◌-◌, ◌^◌, eqb, pos}
+use Rattle.std.specs.Prelude.{cond, List, [], ◌∷◌, ℕ, ◌-◌, ◌^◌, eqb, pos, Option, None, Some}
 use Rattle.answers.specs.Answers.{Answer, accepted, refused}
 use Rattle.bits.specs.Bits.{Field, ◌for◌, bits, put, mask_of, only}
 use Rattle.bits.specs.declared.halves.Halves.{Halves}
-use Rattle.answers.specs.Errors.{refusal}
-use Rattle.words.specs.declared.mpidrs.Aff3.{Aff3}
-use Rattle.words.specs.declared.mpidrs.Aff3.TheVariants.{None, Some}
 use Rattle.words.specs.declared.mpidrs.Mpidr.{Mpidr}
-use Rattle.words.specs.declared.mpidrs.MpidrResult.{MpidrResult}
-use Rattle.words.specs.declared.mpidrs.MpidrResult.TheVariants.{Ok, Err}
 
-abbrev pub mpidr_of : ℕ → ℕ → ℕ → Aff3 → Mpidr
+abbrev pub mpidr_of : ℕ → ℕ → ℕ → Option ℕ → Mpidr
 mpidr_of a0 a1 a2 a3 = record { aff0 = a0; aff1 = a1; aff2 = a2; aff3 = a3 }
 
 abbrev pub fields32 : List Field
@@ -40,7 +35,7 @@ unfoldable pub read_mpidr64 : ℕ → Answer Mpidr
 read_mpidr64 word = cond (only fields64 word) (accepted (mpidr64 word)) (refused 4 (pos word))
 
 -- affinity 3, 0 where it is absent
-abbrev pub aff3_number : Aff3 → ℕ
+abbrev pub aff3_number : Option ℕ → ℕ
 aff3_number None = 0
 aff3_number (Some byte) = byte
 
@@ -52,7 +47,3 @@ write_mpidr32 m = cond (eqb (aff3_number m.aff3) 0) (accepted (low_word m)) (ref
 
 unfoldable pub write_mpidr64 : Mpidr → ℕ
 write_mpidr64 m = put fields64 (m.aff0 ∷ m.aff1 ∷ m.aff2 ∷ aff3_number m.aff3 ∷ [])
-
-abbrev pub mpidr_answer : MpidrResult → Answer Mpidr
-mpidr_answer (Ok m) = accepted m
-mpidr_answer (Err e) = refusal e

@@ -2,11 +2,8 @@
 use Rattle.std.specs.Prelude.{cond, List, [], ◌∷◌, ℕ, leb, eqb, pos}
 use Rattle.answers.specs.Answers.{Answer, accepted, refused}
 use Rattle.bits.specs.Bits.{Field, ◌for◌, bits, put, only}
-use Rattle.answers.specs.Errors.{refusal}
 use Rattle.words.specs.Flags.{flag_word}
 use Rattle.words.specs.declared.original_power_states.OriginalPowerState.{OriginalPowerState}
-use Rattle.words.specs.declared.original_power_states.OriginalPowerStateResult.{OriginalPowerStateResult}
-use Rattle.words.specs.declared.original_power_states.OriginalPowerStateResult.TheVariants.{Ok, Err}
 
 abbrev pub state_id_field : Field
 state_id_field = 0 for 16
@@ -37,7 +34,3 @@ write_original_power_state s =
     cond (leb s.level 3)
     (accepted (put original_power_state_fields (s.state_id ∷ flag_word s.power_down ∷ s.level ∷ [])))
     (refused 27 (pos s.level))
-
-abbrev pub original_power_state_answer : OriginalPowerStateResult → Answer OriginalPowerState
-original_power_state_answer (Ok s) = accepted s
-original_power_state_answer (Err e) = refusal e

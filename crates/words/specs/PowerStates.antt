@@ -2,11 +2,8 @@
 use Rattle.std.specs.Prelude.{cond, List, [], ◌∷◌, ℕ, leb, eqb, pos}
 use Rattle.answers.specs.Answers.{Answer, accepted, refused}
 use Rattle.bits.specs.Bits.{Field, ◌for◌, bits, put, only}
-use Rattle.answers.specs.Errors.{refusal}
 use Rattle.words.specs.declared.power_states.PowerState.{PowerState}
 use Rattle.words.specs.declared.power_states.PowerState.TheVariants.{StandbyOrRetention, PowerDown}
-use Rattle.words.specs.declared.power_states.PowerStateResult.{PowerStateResult}
-use Rattle.words.specs.declared.power_states.PowerStateResult.TheVariants.{Ok, Err}
 
 abbrev pub state_id_field : Field
 state_id_field = 0 for 28
@@ -30,7 +27,3 @@ with_state_id power_down id = cond (leb id 0x0fffffff) (accepted (put power_stat
 unfoldable pub write_power_state : PowerState → Answer ℕ
 write_power_state (StandbyOrRetention id) = with_state_id 0 id
 write_power_state (PowerDown id) = with_state_id 1 id
-
-abbrev pub power_state_answer : PowerStateResult → Answer PowerState
-power_state_answer (Ok s) = accepted s
-power_state_answer (Err e) = refusal e

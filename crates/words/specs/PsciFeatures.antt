@@ -1,12 +1,9 @@
 -- Document 01, "The typed call": feature: 0x80000000 (SMCCC version) or one of the 35 numbers.
 use Rattle.std.specs.Prelude.{cond, ℕ, eqb}
 use Rattle.answers.specs.Answers.{Answer, accepted, through}
-use Rattle.answers.specs.Errors.{refusal}
 use Rattle.function_ids.specs.FunctionIds.{function_number, read_function_id}
 use Rattle.words.specs.declared.psci_features.PsciFeature.{PsciFeature}
 use Rattle.words.specs.declared.psci_features.PsciFeature.TheVariants.{PsciFunction, SmcccVersion}
-use Rattle.words.specs.declared.psci_features.PsciFeatureResult.{PsciFeatureResult}
-use Rattle.words.specs.declared.psci_features.PsciFeatureResult.TheVariants.{Ok, Err}
 
 abbrev pub feature_number : PsciFeature → ℕ
 feature_number (PsciFunction f) = function_number f
@@ -14,7 +11,3 @@ feature_number SmcccVersion = 0x80000000
 
 unfoldable pub read_feature : ℕ → Answer PsciFeature
 read_feature word = cond (eqb word 0x80000000) (accepted SmcccVersion) (through PsciFunction (read_function_id word))
-
-abbrev pub feature_answer : PsciFeatureResult → Answer PsciFeature
-feature_answer (Ok f) = accepted f
-feature_answer (Err e) = refusal e

@@ -2,15 +2,10 @@
 use Rattle.std.specs.Prelude.{cond, List, [], ◌∷◌, ℕ, leb, eqb, pos}
 use Rattle.bits.specs.Bits.{Field, ◌for◌, bits, put}
 use Rattle.answers.specs.Answers.{Answer, accepted, refused, choose, through}
-use Rattle.answers.specs.Errors.{refusal}
 use Rattle.words.specs.declared.reset_types.ArchitecturalResetType.{ArchitecturalResetType}
 use Rattle.words.specs.declared.reset_types.ArchitecturalResetType.TheVariants.{SystemWarmReset}
-use Rattle.words.specs.declared.reset_types.ArchitecturalResetTypeResult.{ArchitecturalResetTypeResult}
-use Rattle.words.specs.declared.reset_types.ArchitecturalResetTypeResult.TheVariants as architectural
 use Rattle.words.specs.declared.reset_types.ResetType.{ResetType}
 use Rattle.words.specs.declared.reset_types.ResetType.TheVariants.{Architectural, VendorSpecific}
-use Rattle.words.specs.declared.reset_types.ResetTypeResult.{ResetTypeResult}
-use Rattle.words.specs.declared.reset_types.ResetTypeResult.TheVariants.{Ok, Err}
 
 abbrev pub architectural_number : ArchitecturalResetType → ℕ
 architectural_number SystemWarmReset = 0
@@ -20,10 +15,6 @@ architectural_types = SystemWarmReset ∷ []
 
 unfoldable pub read_architectural_reset_type : ℕ → Answer ArchitecturalResetType
 read_architectural_reset_type word = choose architectural_number architectural_types (refused 7 (pos word)) word
-
-abbrev pub architectural_answer : ArchitecturalResetTypeResult → Answer ArchitecturalResetType
-architectural_answer (architectural.Ok t) = accepted t
-architectural_answer (architectural.Err e) = refusal e
 
 abbrev pub vendor_field : Field
 vendor_field = 31 for 1
@@ -44,7 +35,3 @@ read_reset_type word =
 unfoldable pub write_reset_type : ResetType → Answer ℕ
 write_reset_type (Architectural t) = accepted (architectural_number t)
 write_reset_type (VendorSpecific t) = cond (leb t 0x7fffffff) (accepted (put reset_type_fields (t ∷ 1 ∷ []))) (refused 31 (pos t))
-
-abbrev pub reset_type_answer : ResetTypeResult → Answer ResetType
-reset_type_answer (Ok t) = accepted t
-reset_type_answer (Err e) = refusal e

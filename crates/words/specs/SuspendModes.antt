@@ -1,11 +1,8 @@
 -- Document 01, "The typed call": mode: 0 or 1.
 use Rattle.std.specs.Prelude.{List, [], ◌∷◌, ℕ, pos}
 use Rattle.answers.specs.Answers.{Answer, accepted, refused, choose}
-use Rattle.answers.specs.Errors.{refusal}
 use Rattle.words.specs.declared.suspend_modes.SuspendMode.{SuspendMode}
 use Rattle.words.specs.declared.suspend_modes.SuspendMode.TheVariants.{PlatformCoordinated, OsInitiated}
-use Rattle.words.specs.declared.suspend_modes.SuspendModeResult.{SuspendModeResult}
-use Rattle.words.specs.declared.suspend_modes.SuspendModeResult.TheVariants.{Ok, Err}
 
 abbrev pub suspend_mode_number : SuspendMode → ℕ
 suspend_mode_number PlatformCoordinated = 0
@@ -16,7 +13,3 @@ suspend_modes = PlatformCoordinated ∷ OsInitiated ∷ []
 
 unfoldable pub read_suspend_mode : ℕ → Answer SuspendMode
 read_suspend_mode word = choose suspend_mode_number suspend_modes (refused 8 (pos word)) word
-
-abbrev pub suspend_mode_answer : SuspendModeResult → Answer SuspendMode
-suspend_mode_answer (Ok m) = accepted m
-suspend_mode_answer (Err e) = refusal e

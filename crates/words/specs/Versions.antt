@@ -2,10 +2,7 @@
 use Rattle.std.specs.Prelude.{cond, List, [], ◌∷◌, ℕ, leb, pos}
 use Rattle.answers.specs.Answers.{Answer, accepted, refused}
 use Rattle.bits.specs.Bits.{Field, ◌for◌, bits, put, only}
-use Rattle.answers.specs.Errors.{refusal}
 use Rattle.words.specs.declared.versions.Version.{Version}
-use Rattle.words.specs.declared.versions.VersionResult.{VersionResult}
-use Rattle.words.specs.declared.versions.VersionResult.TheVariants.{Ok, Err}
 
 abbrev pub major_field : Field
 major_field = 16 for 15
@@ -27,7 +24,3 @@ read_version word =
 
 unfoldable pub write_version : Version → Answer ℕ
 write_version v = cond (leb v.major 0x7fff) (accepted (put version_fields (v.minor ∷ v.major ∷ []))) (refused 16 (pos v.major))
-
-abbrev pub version_answer : VersionResult → Answer Version
-version_answer (Ok v) = accepted v
-version_answer (Err e) = refusal e

@@ -2,7 +2,7 @@ ghost use Rattle.std.specs.Prelude.{◌≡◌};
 ghost use Rattle.words.specs.EntryPoints.{entry_address, entry_context};
 
 // Where a core starts, and the value that it is handed.
-#[derive(Clone, Copy)]
+#[derive(Clone, Copy, Debug, PartialEq, Eq)]
 pub enum EntryPoint {
     Entry32 {
         entry_point_address: u32,
@@ -43,7 +43,7 @@ impl EntryPoint {
             Self::Entry32 {
                 entry_point_address,
                 context_id: _,
-            } => entry_point_address as u64,
+            } => u64::from(entry_point_address),
             Self::Entry64 {
                 entry_point_address,
                 context_id: _,
@@ -59,7 +59,7 @@ impl EntryPoint {
             Self::Entry32 {
                 entry_point_address: _,
                 context_id,
-            } => context_id as u64,
+            } => u64::from(context_id),
             Self::Entry64 {
                 entry_point_address: _,
                 context_id,

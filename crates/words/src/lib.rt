@@ -4,7 +4,6 @@
 
 mod cookies;
 mod entry_points;
-mod flags;
 mod hw_states;
 mod mem_protect_ranges;
 mod mpidrs;
@@ -18,16 +17,13 @@ mod versions;
 
 pub use cookies::Cookie;
 pub use entry_points::EntryPoint;
-pub use flags::flag_word;
-pub use hw_states::{HwState, HwStateResult};
+pub use hw_states::HwState;
 pub use mem_protect_ranges::MemProtectRange;
-pub use mpidrs::{Aff3, Mpidr, MpidrResult};
-pub use original_power_states::{OriginalPowerState, OriginalPowerStateResult};
-pub use power_states::{PowerState, PowerStateResult};
-pub use psci_features::{PsciFeature, PsciFeatureResult};
-pub use reset_types::{
-    ArchitecturalResetType, ArchitecturalResetTypeResult, ResetType, ResetTypeResult,
-};
-pub use suspend_modes::{SuspendMode, SuspendModeResult};
-pub use system_off2_types::{SystemOff2Type, SystemOff2TypeResult};
-pub use versions::{Version, VersionResult};
+pub use mpidrs::Mpidr;
+pub use original_power_states::OriginalPowerState;
+pub use power_states::PowerState;
+pub use psci_features::PsciFeature;
+pub use reset_types::{ArchitecturalResetType, ResetType};
+pub use suspend_modes::SuspendMode;
+pub use system_off2_types::SystemOff2Type;
+pub use versions::Version;

@@ -2,7 +2,7 @@ ghost use Rattle.std.specs.Prelude.{◌≡◌};
 ghost use Rattle.words.specs.MemProtectRanges.{base_word, length_word};
 
 // The memory range of MEM_PROTECT_CHECK_RANGE, DEN0022 5.1.14.
-#[derive(Clone, Copy)]
+#[derive(Clone, Copy, Debug, PartialEq, Eq)]
 pub enum MemProtectRange {
     Range32 { base: u32, length: u32 },
     Range64 { base: u64, length: u64 },
@@ -14,7 +14,7 @@ impl MemProtectRange {
         ensures { result ≡ base_word self }
     {
         match self {
-            Self::Range32 { base, length: _ } => base as u64,
+            Self::Range32 { base, length: _ } => u64::from(base),
             Self::Range64 { base, length: _ } => base,
         }
     }
@@ -24,7 +24,7 @@ impl MemProtectRange {
         ensures { result ≡ length_word self }
     {
         match self {
-            Self::Range32 { base: _, length } => length as u64,
+            Self::Range32 { base: _, length } => u64::from(length),
             Self::Range64 { base: _, length } => length,
         }
     }

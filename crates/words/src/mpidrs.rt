@@ -1,33 +1,19 @@
 // MPIDR, which names a core, with its readers and writers: document 01, "Single words".
 ghost use Rattle.std.specs.Prelude.{◌≡◌};
-ghost use Rattle.answers.specs.Errors.{word_answer};
+ghost use Rattle.answers.specs.Errors.{answered};
 ghost use Rattle.bits.specs.Halves.{register_of};
-ghost use Rattle.words.specs.Mpidrs.{read_mpidr32, read_mpidr64, mpidr64, write_mpidr32, write_mpidr64, mpidr_answer, mpidr_of, low_word, mbz_bits64, mbz_halves64};
+ghost use Rattle.words.specs.Mpidrs.{read_mpidr32, read_mpidr64, mpidr64, write_mpidr32, write_mpidr64, mpidr_of, low_word, mbz_bits64, mbz_halves64};
 
-use answers::{Error, WordResult};
+use answers::Error;
 use bits::halves::Halves;
 
-// Affinity 3, which a 32-bit MPIDR lacks.
-#[derive(Clone, Copy)]
-pub enum Aff3 {
-    None,
-    Some(u8),
-}
-
-// The affinity fields of MPIDR, which name a core.
-#[derive(Clone, Copy)]
+// The affinity fields of MPIDR, which name a core. A 32-bit MPIDR lacks affinity 3.
+#[derive(Clone, Copy, Debug, PartialEq, Eq)]
 pub struct Mpidr {
     pub aff0: u8,
     pub aff1: u8,
     pub aff2: u8,
-    pub aff3: Aff3,
-}
-
-// What reading an MPIDR gives.
-#[derive(Clone, Copy)]
-pub enum MpidrResult {
-    Ok(Mpidr),
-    Err(Error),
+    pub aff3: Option<u8>,
 }
 
 impl Mpidr {
@@ -43,25 +29,25 @@ impl Mpidr {
 
     // An MPIDR with affinity 3.
     pub fn from_aff3210(aff3: u8, aff2: u8, aff1: u8, aff0: u8) -> Self
-        ensures { result ≡ mpidr_of aff0 aff1 aff2 (Aff3.Some aff3) }
+        ensures { result ≡ mpidr_of aff0 aff1 aff2 (Some aff3) }
     {
         Self {
             aff0,
             aff1,
             aff2,
-            aff3: Aff3::Some(aff3),
+            aff3: Some(aff3),
         }
     }
 
     // An MPIDR without affinity 3.
     pub fn from_aff210(aff2: u8, aff1: u8, aff0: u8) -> Self
-        ensures { result ≡ mpidr_of aff0 aff1 aff2 Aff3.None }
+        ensures { result ≡ mpidr_of aff0 aff1 aff2 None }
     {
         Self {
             aff0,
             aff1,
             aff2,
-            aff3: Aff3::None,
+            aff3: None,
         }
     }
 
@@ -69,7 +55,7 @@ impl Mpidr {
     pub fn from_register_value(mpidr_el1: u64) -> Self
         ensures { result ≡ mpidr64 mpidr_el1 }
     {
-        let register = Halves::from_u64(mpidr_el1);
+        let register = Halves::from(mpidr_el1);
         let mbz = Self::mbz_halves();
         Self::fields_64(Halves {
             upper: register.upper & !mbz.upper,
@@ -106,71 +92,77 @@ impl Mpidr {
         )
     }
 
+    // Affinities 2 to 0 in their places.
+    fn low_word(self) -> u32
+        ensures { result ≡ low_word self }
+    {
+        (u32::from(self.aff2) << 16) | (u32::from(self.aff1) << 8) | u32::from(self.aff0)
+    }
+}
+
+impl TryFrom<u32> for Mpidr {
+    type Error = Error;
+
+    ghost try_from_gives = { λ value result. answered result ≡ read_mpidr32 value };
+
     // The MPIDR of a 32-bit word, without affinity 3. A word with a bit of 24–31 is refused with 3, and carried.
     #[tactic(auto, unfolding(crate::specs::Mpidrs::read_mpidr32))]
-    pub fn try_from_u32(value: u32) -> MpidrResult
-        ensures { mpidr_answer result ≡ read_mpidr32 value }
-    {
+    fn try_from(value: u32) -> Result<Self, Error> {
         if value & Self::MBZ_BITS_32 != 0 {
-            MpidrResult::Err(Error::InvalidMpidr32(value))
+            Err(Error::InvalidMpidr32(value))
         } else {
-            MpidrResult::Ok(Self::from_aff210(
+            Ok(Self::from_aff210(
                 ((value >> 16) % 0x100) as u8,
                 ((value >> 8) % 0x100) as u8,
                 (value % 0x100) as u8,
             ))
         }
     }
+}
+
+impl TryFrom<u64> for Mpidr {
+    type Error = Error;
+
+    ghost try_from_gives = { λ value result. answered result ≡ read_mpidr64 value };
 
     // The MPIDR of a 64-bit word, with affinity 3. A word with a bit of 24–31 or 40–63 is refused with 4, and carried.
     #[tactic(auto, using(crate::proofs::MpidrHalves::mbz_halves, crate::proofs::MpidrHalves::no_mbz_bit, crate::proofs::MpidrHalves::mbz_bit), unfolding(crate::specs::Mpidrs::read_mpidr64))]
-    pub fn try_from_u64(value: u64) -> MpidrResult
-        ensures { mpidr_answer result ≡ read_mpidr64 value }
-    {
-        let register = Halves::from_u64(value);
+    fn try_from(value: u64) -> Result<Self, Error> {
+        let register = Halves::from(value);
         let mbz = Self::mbz_halves();
         // one test of both: of two with `||` between them the kit's LLVM makes one of the whole register
         if (register.upper & mbz.upper) | (register.lower & mbz.lower) != 0 {
-            MpidrResult::Err(Error::InvalidMpidr64(value))
+            Err(Error::InvalidMpidr64(value))
         } else {
-            MpidrResult::Ok(Self::fields_64(register))
+            Ok(Self::fields_64(register))
         }
     }
+}
 
-    // Affinities 2 to 0 in their places.
-    fn low_word(self) -> u32
-        ensures { result ≡ low_word self }
-    {
-        ((self.aff2 as u32) << 16) | ((self.aff1 as u32) << 8) | self.aff0 as u32
-    }
+impl TryFrom<Mpidr> for u32 {
+    type Error = Error;
+
+    ghost try_from_gives = { λ mpidr result. answered result ≡ write_mpidr32 mpidr };
 
     // The word of 32 bits. Affinity 3 present and not 0 is refused with 13, and carried; present and 0 it is left out.
     #[tactic(auto, unfolding(crate::specs::Mpidrs::write_mpidr32))]
-    pub fn to_u32(self) -> WordResult
-        ensures { word_answer result ≡ write_mpidr32 self }
-    {
-        let aff3 = self.aff3;
-        match aff3 {
-            Aff3::None => WordResult::Ok(self.low_word()),
-            Aff3::Some(aff3) => {
-                if aff3 == 0 {
-                    WordResult::Ok(self.low_word())
-                } else {
-                    WordResult::Err(Error::IgnoredNonZeroAff3(aff3))
-                }
-            }
+    fn try_from(mpidr: Mpidr) -> Result<u32, Error> {
+        match mpidr.aff3 {
+            Some(aff3) if aff3 != 0 => Err(Error::IgnoredNonZeroAff3(aff3)),
+            _ => Ok(mpidr.low_word()),
         }
     }
+}
+
+impl From<Mpidr> for u64 {
+    ghost from_gives = { λ mpidr word. word ≡ write_mpidr64 mpidr };
 
     // The word of 64 bits, with 0 for an absent affinity 3.
     #[tactic(auto, unfolding(crate::specs::Mpidrs::write_mpidr64))]
-    pub fn to_u64(self) -> u64
-        ensures { result ≡ write_mpidr64 self }
-    {
-        let aff3 = self.aff3;
-        match aff3 {
-            Aff3::None => self.low_word() as u64,
-            Aff3::Some(aff3) => ((aff3 as u64) << 32) | self.low_word() as u64,
+    fn from(mpidr: Mpidr) -> u64 {
+        match mpidr.aff3 {
+            None => u64::from(mpidr.low_word()),
+            Some(aff3) => (u64::from(aff3) << 32) | u64::from(mpidr.low_word()),
         }
     }
 }

@@ -1,49 +1,46 @@
 ghost use Rattle.std.specs.Prelude.{◌≡◌};
-ghost use Rattle.words.specs.PsciFeatures.{read_feature, feature_answer, feature_number};
+ghost use Rattle.answers.specs.Errors.{answered};
+ghost use Rattle.words.specs.PsciFeatures.{read_feature, feature_number};
 
 use answers::Error;
-use function_ids::{FunctionId, FunctionIdResult};
+use function_ids::FunctionId;
 
 // PSCI_FEATURES psci_func_id, DEN0022 5.1.15.
-#[derive(Clone, Copy)]
+#[derive(Clone, Copy, Debug, PartialEq, Eq)]
 pub enum PsciFeature {
     PsciFunction(FunctionId),
     SmcccVersion,
 }
 
-// What reading a feature gives.
-#[derive(Clone, Copy)]
-pub enum PsciFeatureResult {
-    Ok(PsciFeature),
-    Err(Error),
-}
-
 impl PsciFeature {
     const SMCCC_VERSION: u32 = 0x8000_0000;
+}
+
+impl TryFrom<u32> for PsciFeature {
+    type Error = Error;
+
+    ghost try_from_gives = { λ value result. answered result ≡ read_feature value };
 
     // The SMCCC version of 0x80000000, the function of one of the 35 numbers; any other word is refused with 1, and carried.
+    // Inlined in both of its callers: else every decode has a stack frame for the call (docs/BENCHMARKS.md).
+    #[inline(always)]
     #[tactic(auto, unfolding(crate::specs::PsciFeatures::read_feature))]
-    pub fn try_from_u32(value: u32) -> PsciFeatureResult
-        ensures { feature_answer result ≡ read_feature value }
-    {
+    fn try_from(value: u32) -> Result<Self, Error> {
         if value == Self::SMCCC_VERSION {
-            return PsciFeatureResult::Ok(Self::SmcccVersion);
+            return Ok(Self::SmcccVersion);
         }
-        match FunctionId::try_from_u32(value) {
-            FunctionIdResult::Ok(function_id) => {
-                PsciFeatureResult::Ok(Self::PsciFunction(function_id))
-            }
-            FunctionIdResult::Err(error) => PsciFeatureResult::Err(error),
-        }
+        Ok(Self::PsciFunction(FunctionId::try_from(value)?))
     }
+}
+
+impl From<PsciFeature> for u32 {
+    ghost from_gives = { λ feature number. number ≡ feature_number feature };
 
     // The feature's number: the inverse of its reader.
-    pub fn to_u32(self) -> u32
-        ensures { result ≡ feature_number self }
-    {
-        match self {
-            Self::PsciFunction(function_id) => function_id.to_u32(),
-            Self::SmcccVersion => Self::SMCCC_VERSION,
+    fn from(feature: PsciFeature) -> u32 {
+        match feature {
+            PsciFeature::PsciFunction(function_id) => u32::from(function_id),
+            PsciFeature::SmcccVersion => PsciFeature::SMCCC_VERSION,
         }
     }
 }

@@ -1,91 +1,82 @@
 // Reset types, each with its reader and its writer: document 01, "Single words"; document 02, Change 5.
 ghost use Rattle.std.specs.Prelude.{◌≡◌};
-ghost use Rattle.answers.specs.Errors.{word_answer};
-ghost use Rattle.words.specs.ResetTypes.{architectural_number, read_architectural_reset_type, architectural_answer, read_reset_type, write_reset_type, reset_type_answer};
+ghost use Rattle.answers.specs.Errors.{answered};
+ghost use Rattle.words.specs.ResetTypes.{architectural_number, read_architectural_reset_type, read_reset_type, write_reset_type};
 
-use answers::{Error, WordResult};
+use answers::Error;
 
 // SYSTEM_RESET2 architectural reset type, DEN0022 5.1.12.
-#[derive(Clone, Copy)]
+#[derive(Clone, Copy, Debug, PartialEq, Eq)]
 pub enum ArchitecturalResetType {
-    SystemWarmReset,
+    SystemWarmReset = 0,
 }
 
-// What reading an architectural reset type gives.
-#[derive(Clone, Copy)]
-pub enum ArchitecturalResetTypeResult {
-    Ok(ArchitecturalResetType),
-    Err(Error),
-}
+impl TryFrom<u32> for ArchitecturalResetType {
+    type Error = Error;
 
-impl ArchitecturalResetType {
+    ghost try_from_gives = { λ value result. answered result ≡ read_architectural_reset_type value };
+
     // The type of 0; any other word is refused with 7, and carried.
     #[tactic(auto, unfolding(crate::specs::ResetTypes::read_architectural_reset_type))]
-    pub fn try_from_u32(value: u32) -> ArchitecturalResetTypeResult
-        ensures { architectural_answer result ≡ read_architectural_reset_type value }
-    {
+    fn try_from(value: u32) -> Result<Self, Error> {
         match value {
-            0 => ArchitecturalResetTypeResult::Ok(Self::SystemWarmReset),
-            _ => ArchitecturalResetTypeResult::Err(Error::UnrecognisedSystemReset2Type(value)),
+            0 => Ok(Self::SystemWarmReset),
+            _ => Err(Error::UnrecognisedSystemReset2Type(value)),
         }
     }
+}
+
+impl From<ArchitecturalResetType> for u32 {
+    ghost from_gives = { λ reset_type word. word ≡ architectural_number reset_type };
 
     // The type's word, 0.
-    pub fn to_u32(self) -> u32
-        ensures { result ≡ architectural_number self }
-    {
-        match self {
-            Self::SystemWarmReset => 0,
-        }
+    fn from(reset_type: ArchitecturalResetType) -> u32 {
+        reset_type as u32
     }
 }
 
 // SYSTEM_RESET2 reset type, DEN0022 5.1.12.
-#[derive(Clone, Copy)]
+#[derive(Clone, Copy, Debug, PartialEq, Eq)]
 pub enum ResetType {
     Architectural(ArchitecturalResetType),
     VendorSpecific(u32),
 }
 
-// What reading a reset type gives.
-#[derive(Clone, Copy)]
-pub enum ResetTypeResult {
-    Ok(ResetType),
-    Err(Error),
-}
-
 impl ResetType {
     const VENDOR_SPECIFIC_BIT: u32 = 0x8000_0000;
+}
+
+impl TryFrom<u32> for ResetType {
+    type Error = Error;
+
+    ghost try_from_gives = { λ value result. answered result ≡ read_reset_type value };
 
     // With bit 31 set the vendor type of the other bits, otherwise the architectural type; where that is refused so is this, with 7.
     #[tactic(auto, unfolding(crate::specs::ResetTypes::read_reset_type))]
-    pub fn try_from_u32(value: u32) -> ResetTypeResult
-        ensures { reset_type_answer result ≡ read_reset_type value }
-    {
+    fn try_from(value: u32) -> Result<Self, Error> {
         if value & Self::VENDOR_SPECIFIC_BIT != 0 {
-            return ResetTypeResult::Ok(Self::VendorSpecific(value & !Self::VENDOR_SPECIFIC_BIT));
+            return Ok(Self::VendorSpecific(value & !Self::VENDOR_SPECIFIC_BIT));
         }
-        match ArchitecturalResetType::try_from_u32(value) {
-            ArchitecturalResetTypeResult::Ok(t) => ResetTypeResult::Ok(Self::Architectural(t)),
-            ArchitecturalResetTypeResult::Err(error) => ResetTypeResult::Err(error),
-        }
+        Ok(Self::Architectural(ArchitecturalResetType::try_from(value)?))
     }
+}
+
+impl TryFrom<ResetType> for u32 {
+    type Error = Error;
+
+    ghost try_from_gives = { λ reset_type result. answered result ≡ write_reset_type reset_type };
 
     // The type's word: bit 31 marks a vendor type. A vendor type above 0x7fffffff, which has no room beside that bit, is refused with 31, and
     // carried.
     #[tactic(auto, unfolding(crate::specs::ResetTypes::write_reset_type))]
-    pub fn to_u32(self) -> WordResult
-        ensures { word_answer result ≡ write_reset_type self }
-    {
-        match self {
-            Self::Architectural(architectural_reset_type) => {
-                WordResult::Ok(architectural_reset_type.to_u32())
-            }
-            Self::VendorSpecific(vendor_specific_type) => {
-                if vendor_specific_type & Self::VENDOR_SPECIFIC_BIT != 0 {
-                    WordResult::Err(Error::InvalidVendorType(vendor_specific_type))
+    fn try_from(reset_type: ResetType) -> Result<u32, Error> {
+        match reset_type {
+            ResetType::Architectural(architectural) => Ok(u32::from(architectural)),
+            ResetType::VendorSpecific(vendor_type) => {
+                if vendor_type & ResetType::VENDOR_SPECIFIC_BIT != 0 {
+                    Err(Error::InvalidVendorType(vendor_type))
                 } else {
-                    WordResult::Ok(vendor_specific_type | Self::VENDOR_SPECIFIC_BIT)
+                    Ok(vendor_type | ResetType::VENDOR_SPECIFIC_BIT)
                 }
             }
         }

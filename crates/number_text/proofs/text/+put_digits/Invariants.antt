@@ -1,6 +1,5 @@
--- `number_text::text::put_digits` calls itself with one digit fewer.
+-- `number_text::text::put_digits` calls itself with a smaller number.
 use Rattle.number_text.proofs.text.+put_digits.Given as goal
 
--- how many digits are left
 abbrev pub decreases-put_digits : goal.decreases-put_digits
-decreases-put_digits l = l.k
+decreases-put_digits l = l.n

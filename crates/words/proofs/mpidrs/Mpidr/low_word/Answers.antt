@@ -18,4 +18,4 @@ in_place a2 a1 a0 h2 h1 h0 =
 pub returns : goal.returns
 returns c =
     let m = c.args.self in
-    in_place m.aff2 m.aff1 m.aff0 (omega arith) (omega arith) (omega arith)
+    simp (c.from.ensures, c.from-2.ensures, c.from-3.ensures) (in_place m.aff2 m.aff1 m.aff0 (omega arith) (omega arith) (omega arith))
