@@ -26,7 +26,7 @@ fn one_part(part: u64) -> [u64; 9] {
     three(0, part, 0, 0)
 }
 
-// The codes in the order of their numbers from -1 down: a code's part is its index.
+// The codes in the order of their numbers from -1 down: a code's part is its index here, and not its number.
 const CODES: [ErrorCode; 9] = [
     ErrorCode::NotSupported,
     ErrorCode::InvalidParameters,
@@ -39,27 +39,14 @@ const CODES: [ErrorCode; 9] = [
     ErrorCode::InvalidAddress,
 ];
 
-// The states in the order of their parts.
-const STATES: [HwState; 3] = [HwState::On, HwState::Off, HwState::Standby];
-
-// Where a value stands in a table; behind its end, if nowhere.
-fn index_in<T: Copy + PartialEq>(table: &[T], value: T) -> u64 {
-    let index = table.iter().position(|entry| *entry == value);
-    index.unwrap_or(table.len()) as u64
-}
-
-// The value at an index, or another.
-fn at_index<T: Copy>(table: &[T], index: u64, other: T) -> T {
-    let entry = usize::try_from(index).ok().and_then(|at| table.get(at));
-    entry.copied().unwrap_or(other)
-}
-
 pub(crate) fn code_index(error_code: ErrorCode) -> u64 {
-    index_in(&CODES, error_code)
+    let index = CODES.iter().position(|code| *code == error_code);
+    index.unwrap_or(CODES.len()) as u64
 }
 
 fn code_at(index: u64) -> ErrorCode {
-    at_index(&CODES, index, ErrorCode::NotSupported)
+    let code = usize::try_from(index).ok().and_then(|at| CODES.get(at));
+    code.copied().unwrap_or(ErrorCode::NotSupported)
 }
 
 impl Words for FunctionId {
@@ -203,11 +190,11 @@ impl Words for PsciFeature {
 
 impl Words for HwState {
     fn words(self) -> [u64; 9] {
-        one_part(index_in(&STATES, self))
+        one_part(u64::from(u32::from(self)))
     }
 
     fn of(words: [u64; 9]) -> Self {
-        at_index(&STATES, words[1], Self::On)
+        Self::try_from(low32(words[1])).unwrap_or(Self::On)
     }
 }
 
