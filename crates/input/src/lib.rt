@@ -1,6 +1,7 @@
 // Reading of input that tells its end from a read that failed.
 #![tactic(auto)]
 
+ghost use Rattle.std.specs.Prelude.{◌≡◌, ◌≤◌, length, IfOk, IfErr};
 ghost use Rattle.input.specs.Reading.{Reading};
 
 use std::io::Read;
@@ -11,19 +12,31 @@ pub struct ReadFailed {
     pub size: usize,
 }
 
+// One read to the lent bytes from an offset on: the offset after what was read. A read that failed read nothing: the offset that it began at.
+fn read_from<R: Read>(reader: &mut R, buf: &mut [u8], from: usize) -> Result<usize, ReadFailed>
+    requires { from ≤ length buf.old }
+    ensures onward { IfOk result (λ next. from ≤ next) }
+    ensures within { IfOk result (λ next. next ≤ length buf.old) }
+    ensures failed_reads_nothing { IfErr result (λ failed. failed.size ≡ from) }
+{
+    match reader.read(&mut buf[from..]) {
+        Ok(more) => Ok(from + more),
+        Err(_) => Err(ReadFailed { size: from }),
+    }
+}
+
 // Reads to the front of the lent bytes until they are full, the input ends or a read fails, and gives how many bytes were read. A read that a
-// signal interrupts counts as one that failed. A loop and no `for`: each read says where the next begins. What the contract leaves free stands in
-// specs/Reading.antt.
+// signal interrupts counts as one that failed. What the contract leaves free stands in specs/Reading.antt.
 pub fn read_all<R: Read>(reader: &mut R, buf: &mut [u8]) -> Result<usize, ReadFailed>
     ensures { Reading buf.old buf.new result }
 {
     let mut size = 0;
     while size < buf.len() {
-        match reader.read(&mut buf[size..]) {
-            Ok(0) => break,
-            Ok(more) => size += more,
-            Err(_) => return Err(ReadFailed { size }),
+        let next = read_from(reader, buf, size)?;
+        if next == size {
+            break;
         }
+        size = next;
     }
     Ok(size)
 }
