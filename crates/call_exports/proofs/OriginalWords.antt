@@ -8,15 +8,14 @@ use lib.IntN.{pos}
 use Rattle.bits.specs.Bits.{bits, only}
 use Rattle.answers.specs.Answers.{accepted}
 use Rattle.answers.proofs.Answering.{passed}
-use Rattle.words.specs.Flags.{flag_word}
 use Rattle.words.specs.OriginalPowerStates.{power_down_field, original_power_state_fields, read_original_power_state}
 use Rattle.words.specs.declared.original_power_states.OriginalPowerState.{OriginalPowerState}
 use Rattle.call_exports.specs.Parts.{Fit}
-use Rattle.call_exports.specs.OriginalWords.{original_state_parts, original_state_in}
+use Rattle.call_exports.specs.OriginalWords.{original_state_parts, OriginalStateOwn}
 use Rattle.call_exports.proofs.DecodedFit.{flag_fits}
 use Rattle.call_exports.proofs.OwnParts.{flag_own}
 
-pub original_state_own : (s : OriginalPowerState) → Fit (original_state_parts s) → original_state_in (flag_word s.power_down) s.state_id s.level ≡ s
+pub original_state_own : OriginalStateOwn
 original_state_own s h = rw (flag_own s.power_down, mod-eq_of_lt h.1.0, mod-eq_of_lt h.1.1.0)
 
 pub original_state_fits : (word : ℕ) (s : OriginalPowerState) → read_original_power_state word ≡ accepted s → Fit (original_state_parts s)
