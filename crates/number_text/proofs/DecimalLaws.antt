@@ -30,4 +30,4 @@ reads zero n h = omega arith
 reads (suc k) n h = chosen n (ltb n 10) (decimal_in k (n / 10)) refl (λ more. reads k (n / 10) (omega arith))
 
 pub decimal_laws : DecimalLaws
-decimal_laws = record { enough = λ n h. reads 20 n (omega arith) }
+decimal_laws = record { enough = λ n h. reads _ n (omega arith) }
