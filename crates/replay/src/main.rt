@@ -58,7 +58,7 @@ impl Tally {
     }
 }
 
-fn block(rt: &impl Print, t: &mut Tally, bytes: &[u8]) -> io::Result<()> {
+fn block(rt: &impl Print, t: &mut Tally, bytes: &[u8; BLOCK]) -> io::Result<()> {
     if t.labelled {
         t.labelled = false;
         return show_case(rt, Record::from(bytes));
@@ -74,12 +74,11 @@ fn block(rt: &impl Print, t: &mut Tally, bytes: &[u8]) -> io::Result<()> {
 
 // Whether the bytes were whole blocks.
 fn blocks(rt: &impl Print, t: &mut Tally, bytes: &[u8]) -> io::Result<bool> {
-    let whole = bytes.chunks_exact(BLOCK);
-    let is_whole = whole.remainder().is_empty();
+    let (whole, rest) = bytes.as_chunks::<BLOCK>();
     for bytes in whole {
         block(rt, t, bytes)?;
     }
-    Ok(is_whole)
+    Ok(rest.is_empty())
 }
 
 // Reads as many blocks as there is room for: fewer only at the end of the input, or where a read failed.

@@ -1,5 +1,6 @@
 // A record: the operation, a call or a single value as nine words, four registers, and what is told: a refusal's number and what it carries. An
 // answer changes only what it gives; every other word stays as it was asked.
+use crate::BLOCK;
 use crate::op::UnknownOperation;
 use answers::told::{Refusal, accepted_words};
 use call_exports::call_asked::WordsError;
@@ -20,9 +21,9 @@ pub(crate) fn wrong_regs(regs: [u64; 4]) -> [u64; 4] {
     regs.map(|word| word ^ WRONG)
 }
 
-impl From<&[u8]> for Record {
+impl From<&[u8; BLOCK]> for Record {
     // The record of a block: its sixteen words.
-    fn from(block: &[u8]) -> Self {
+    fn from(block: &[u8; BLOCK]) -> Self {
         Self {
             operation: word_at(block, 0),
             call: [1, 2, 3, 4, 5, 6, 7, 8, 9].map(|index| word_at(block, index)),
