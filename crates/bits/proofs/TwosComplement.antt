@@ -1,12 +1,14 @@
 -- Two's complement worked out: the sign facts over the width, and std's casts by them, once for every width. Assumes nothing.
 use mathlib.Core.Path.{◌≡◌, refl}
-use mathlib.Core.Bool.{true}
-use Prim.Native.Nat.{ℕ, suc, ◌*◌, ◌^◌}
+use mathlib.Core.Bool.{Bool, true, false, cond}
+use Prim.Native.Nat.{ℕ, suc, ◌+◌, ◌-◌, ◌*◌, ◌≤◌, ◌^◌}
 use native.Mathlib.Nat.{pow-suc}
 use native.Mathlib.Omega.{arith}
+use lib.Dec.{ltb}
 use lib.IntN.{ℤ, pos, negsuc}
 use mir.Syntax.{Width, w8, w16, w32, w64, w128}
 use mir.Val.{bits, hbits, to_z, of_z}
+use borrow.Author.Tests.{le-ltb, ltb-false}
 use Rattle.std.proofs.lemmas.Bool.Decides.{nat_tests}
 use Rattle.bits.specs.Signs.{signed, word_of, fits_in}
 use Rattle.bits.specs.SignLaws.{SignLaws}
@@ -20,6 +22,17 @@ signed_back k (negsuc n) fit = let p : 2 ^ suc k ≡ 2 ^ k * 2 = pow-suc 2 k in 
 
 pub sign_laws : SignLaws
 sign_laws = record { signed_back = signed_back; word_back = λ k word h. grind (arith, nat_tests) }
+
+-- the words of k bits whose numbers don't fit in j bits lie between the lowest and the highest that do
+pub beyond : (j k word : ℕ) → 2 ^ j ≤ word * 2 → word * 2 + 2 + 2 ^ j ≤ 2 ^ k * 2 → fits_in j (signed k word) ≡ false
+beyond j k word lo hi = by_half (ltb (word * 2) (2 ^ k)) refl
+  where
+    by_half : (t : Bool) → ltb (word * 2) (2 ^ k) ≡ t → fits_in j (cond t (pos word) (negsuc (2 ^ k - suc word))) ≡ false
+    by_half true e = le-ltb (word * 2) (2 ^ j) lo
+    by_half false e =
+        let h = ltb-false (word * 2) (2 ^ k) e in
+        let l : 2 ^ j ≤ (2 ^ k - suc word) * 2 = omega arith in
+        le-ltb ((2 ^ k - suc word) * 2) (2 ^ j) l
 
 -- ---- std's casts, at its widths
 
