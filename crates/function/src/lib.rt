@@ -1,5 +1,5 @@
-// The typed call: the enum Call, over the format of its power state (state_format.rt), its function number, the cores that it names (named_cores.rt), and
-// the call in another format (states.rt).
+// The typed call: the enum Call, over the format of its power state (state_format.rt), its function number, the cores that it names (named_cores.rt), the
+// call in another format (states.rt), and the calls that have no power state (stateless.rt).
 #![tactic(auto)]
 
 ghost use Rattle.std.specs.Prelude.{◌≡◌};
@@ -9,6 +9,7 @@ ghost use Rattle.function.specs.Functions.{function_id_of};
 pub mod forms;
 mod named_cores;
 mod state_format;
+mod stateless;
 mod states;
 
 use answers::Error;
@@ -16,6 +17,7 @@ use forms::Formed;
 use function_ids::FunctionId;
 pub use named_cores::CoreGroup;
 pub use state_format::StateFormat;
+pub use stateless::{NoState, StatelessFunction};
 use words::{
     Cookie, EntryPoint, MemProtectRange, Mpidr, PowerState, PsciFeature, ResetType, SuspendMode,
     SystemOff2Type,
