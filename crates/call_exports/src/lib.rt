@@ -23,7 +23,7 @@ pub mod state_words;
 
 use crate::call_asked::{Worded, call_asked};
 use answers::told::{Refusal, accepted_words};
-use roundtrip::{Codec, Document01, Smccc, recode};
+use roundtrip::{Codec, Document01, Smccc, recode, recode_smccc};
 
 // The nine words of the call that four registers make, by any codec whose calls have nine words. Refused as its decoder refuses; the lent words are then
 // as they were.
@@ -87,5 +87,5 @@ pub fn psci_recode(regs: &[u64; 4], out: &mut [u64; 4]) -> Refusal
 pub fn psci_recode_smccc(regs: &[u64; 4], out: &mut [u64; 4]) -> Refusal
     ensures writes { Writes refusal_in (recode_smccc regs.now out.old) out.old result out.new }
 {
-    Refusal::from(recode::<Smccc>(*regs, out))
+    Refusal::from(recode_smccc(*regs, out))
 }

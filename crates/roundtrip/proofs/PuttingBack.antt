@@ -9,7 +9,7 @@ use lib.Dec.{eqb}
 use lib.IntN.{ℤ, pos}
 use lib.ListN.{length, get_or, set}
 use borrow.Author.Tests.{eq-eqb, ne_eqb}
-use Rattle.std.specs.Prelude.{Result, Ok, Err, OnOk, ⊤}
+use Rattle.std.specs.Prelude.{Result, Ok, Err, ⊤}
 use Rattle.answers.specs.declared.Error.{Error}
 use Rattle.answers.specs.Answers.{Answer, accepted, refused, through, and_then}
 use Rattle.answers.specs.Lent.{Writes, itself, left}

@@ -12,16 +12,9 @@ use Rattle.answers.specs.Answers.{Answer, accepted, refused, and_then}
 use Rattle.answers.specs.Lent.{Writes, itself}
 use Rattle.answers.proofs.Answering.{same_accepted, came_then}
 use Rattle.answers.proofs.Lending.{turned_back, writes_as}
-use Rattle.function.specs.Functions.{Function}
-use Rattle.decode_definition.specs.Decode.{decode_of}
-use Rattle.decode_definition.specs.TwoDecodings.{low_half_for_protect}
-use Rattle.decode_definition.proofs.TwoDecodings.{by_01}
-use Rattle.encode_definition.specs.Encode.{encode_of}
 use Rattle.encode_definition.proofs.Laws.{run_of_four}
 use Rattle.encode.specs.Answers.{encode_answer}
 use Rattle.roundtrip.specs.Codec.{Codec, encode_by, reworded_by, recode_by, Registers, Demand3}
-use Rattle.roundtrip.specs.Document01.{recode_of}
-use Rattle.roundtrip.specs.Smccc.{recode_smccc}
 
 module _ (c : Codec) (regs run : List ℕ) where
   -- for a run of four, recoding gives the call's words
@@ -45,10 +38,3 @@ module _ (c : Codec) (regs run : List ℕ) where
       let o = came_then (c.decode regs) (λ f. encode_by c f run) last (sym e.says) in
       let one = d3.of_one regs o.0 h o.1.0 run (run_of_four (c.words o.0) run last o.1.1) in
       ap c.decode (same_accepted (sym o.1.1 ∙ one.written)) ∙ one.again ∙ sym o.1.0
-
--- by Change 2's decoder: the same of the set with r1's low half for memory protect. It holds `recode_smccc` of specs/Smccc.antt to what Change 2 says
--- (must-fail/recoded_by_document_01.edit)
-pub by_smccc : (regs run read : List ℕ) (r : Result ⊤ Error) (last : List ℕ) → read ≡ low_half_for_protect regs →
-    Writes itself (recode_of read run) run (encode_answer r last) last → Writes itself (recode_smccc regs run) run (encode_answer r last) last
-by_smccc regs run read r last low e =
-    writes_as itself (ap (λ (x : Answer Function). and_then x (λ f. encode_of f run)) (ap decode_of low ∙ sym (by_01 regs))) e

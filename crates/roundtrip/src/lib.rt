@@ -1,5 +1,5 @@
 // Demand 3: what is decoded encodes, decodes back and is zero elsewhere: statement, proof, and the program's part in it: a trait for any codec, document
-// 01's and Change 2's as its instances, and `recode` by any of them.
+// 01's and Change 2's as its instances, and `recode` by any of them; `recode_smccc` is Change 2's.
 #![tactic(auto)]
 
 ghost use Rattle.std.specs.Prelude.{◌≡◌, List, ℕ, OnOk};
@@ -11,6 +11,7 @@ ghost use Rattle.decode_definition.specs.Decode.{decode_by, decode_smccc};
 ghost use Rattle.encode_definition.specs.Encode.{in_four, words_by, words_of};
 ghost use Rattle.encode.specs.Answers.{encode_answer};
 ghost use Rattle.roundtrip.specs.Codec.{codec_of, recode_by, Demand3};
+ghost use Rattle.roundtrip.specs.Smccc.{recode_smccc};
 
 pub mod leftovers;
 
@@ -95,4 +96,13 @@ pub fn recode<C: Codec>(regs: [u64; 4], out: &mut [u64]) -> Result<(), Error>
     ensures read_again { OnOk result (C.decoding out.new ≡ C.decoding regs) }
 {
     C::encode(C::decode(regs)?, out)
+}
+
+// The same by Change 2's decoder: memory protect is written by the low half of r1. Refused as `recode` refuses, and a refusal leaves the run as it
+// was; 14, 15 and 31 can't come of a call that was decoded.
+pub fn recode_smccc(regs: [u64; 4], out: &mut [u64]) -> Result<(), Error>
+    ensures writes { Writes itself (recode_smccc regs out.old) out.old (encode_answer result out.new) out.new }
+    ensures read_again { OnOk result (decode_smccc out.new ≡ decode_smccc regs) }
+{
+    recode::<Smccc>(regs, out)
 }
