@@ -23,17 +23,19 @@ use Rattle.words.specs.declared.original_power_states.OriginalPowerState.{Origin
 use Rattle.function.specs.Forms.{in_form, entry_form, mpidr_form}
 use Rattle.function.specs.Functions.{function_id_of}
 use Rattle.function.specs.States.{with_state}
+use Rattle.function.specs.Stateless.{StatelessFunction, no_state, among, function_of}
+use Rattle.function.specs.declared.stateless.NoState.{NoState}
 use Rattle.function.specs.declared.Call.{Call}
 use Rattle.function.specs.declared.Call.TheVariants.{Version, CpuSuspend, CpuOff, CpuOn, AffinityInfo, Migrate, MigrateInfoType, MigrateInfoUpCpu, SystemOff, SystemOff2, SystemReset, SystemReset2, MemProtect, MemProtectCheckRange, Features, CpuFreeze, CpuDefaultSuspend, NodeHwState, SystemSuspend, SetSuspendMode, StatResidency, StatCount}
 use Rattle.decode_definition.specs.RefusalOrders.{affinity_info}
 use Rattle.decode_definition.specs.Decode.{call_of, call_in, decode_by}
 use Rattle.encode_definition.specs.Arguments.{arguments_by}
 use Rattle.encode_definition.specs.Encode.{words_by}
-use Rattle.original_calls.specs.OriginalFunctions.{OriginalFunction, StatelessFunction, among, function_of, original_of}
+use Rattle.original_calls.specs.OriginalFunctions.{OriginalFunction, original_of}
 use Rattle.original_calls.specs.TwoFormats.{WithoutState}
 
 -- a reader that no word passes: there is no state to give
-abbrev pub never : ℕ → Answer ⊥
+abbrev pub never : ℕ → Answer NoState
 never word = refused 0 (pos 0)
 
 -- ---- decoding
@@ -48,7 +50,7 @@ module _ {S : Type 0} (read : ℕ → Answer S) where
       tested false = refl
 
   -- a function that has no power state has the same call in every format
-  row_among : (f : FunctionId) (the : Kind → ℕ) → WithoutState (function_number f) → call_of read f the ≡ through among (call_of never f the)
+  pub row_among : (f : FunctionId) (the : Kind → ℕ) → WithoutState (function_number f) → call_of read f the ≡ through among (call_of never f the)
   row_among id.PsciVersion the o = refl
   row_among id.CpuSuspend32 the o = absurd (o.0 refl)
   row_among id.CpuSuspend64 the o = absurd (o.1.0 refl)
@@ -118,9 +120,9 @@ own (CpuDefaultSuspend x) s = refl
 own (NodeHwState x y) s = refl
 own (SystemSuspend x) s = refl
 own (SetSuspendMode x) s = refl
-own (CpuSuspend x y) s = absurd x
-own (StatResidency x y) s = absurd y
-own (StatCount x y) s = absurd y
+own (CpuSuspend x y) s = no_state x
+own (StatResidency x y) s = no_state y
+own (StatCount x y) s = no_state y
 
 -- the words of such a call are the same by every writer
 module _ {A B : Type 0} (write : A → Answer ℕ) (other : B → Answer ℕ) where
@@ -145,9 +147,9 @@ module _ {A B : Type 0} (write : A → Answer ℕ) (other : B → Answer ℕ) wh
   written_among (NodeHwState x y) = refl
   written_among (SystemSuspend x) = refl
   written_among (SetSuspendMode x) = refl
-  written_among (CpuSuspend x y) = absurd x
-  written_among (StatResidency x y) = absurd y
-  written_among (StatCount x y) = absurd y
+  written_among (CpuSuspend x y) = no_state x
+  written_among (StatResidency x y) = no_state y
+  written_among (StatCount x y) = no_state y
 
 -- ---- a call that has a power state has one of the six numbers
 

@@ -1,3 +1,4 @@
+pub mod ByCalls
 pub mod Elsewhere
 pub mod Original
 pub mod OriginalCases

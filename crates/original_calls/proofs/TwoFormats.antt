@@ -6,7 +6,8 @@ use Rattle.answers.specs.Answers.{Answer, accepted, through}
 use Rattle.answers.proofs.Answering.{through_twice}
 use Rattle.function_ids.specs.declared.FunctionId.{FunctionId}
 use Rattle.function_ids.specs.declared.FunctionId.TheVariants as id
-use Rattle.function_ids.specs.CallTable.{Kind, whole, number_in}
+use Rattle.function_ids.specs.CallTable.{Kind, power_state, mpidr, whole, number_in}
+use Rattle.words.specs.Mpidrs.{read_mpidr32, read_mpidr64}
 use Rattle.words.specs.PowerStates.{read_power_state, write_power_state}
 use Rattle.words.specs.OriginalPowerStates.{read_original_power_state, write_original_power_state}
 use Rattle.words.specs.declared.entry_points.EntryPoint.{EntryPoint}
@@ -24,6 +25,7 @@ use Rattle.roundtrip.specs.Codec.{Registers}
 use Rattle.original_calls.specs.OriginalCalls.{original_decode_of}
 use Rattle.original_calls.specs.TwoFormats.{TheWord, SixRows, before_entry, after_mpidr, Same, WithoutState, TwoFormats}
 use Rattle.original_calls.proofs.Elsewhere.{never, set_among, own, written_among, other}
+use Rattle.original_calls.proofs.ByCalls.{residency, count, by_call}
 
 the_word : TheWord
 unfolding read_power_state read_original_power_state
@@ -39,18 +41,19 @@ the_word = record {
 -- ---- decoding
 
 six_rows : (the : Kind → ℕ) → SixRows the
+unfolding read_power_state
 six_rows the = record {
   suspend32 = refl;
   suspend32_01 = refl;
   suspend64 = refl;
   suspend64_01 = refl;
-  residency32 = refl;
+  residency32 = residency (read_mpidr32 (the mpidr)) (read_original_power_state (the power_state));
   residency32_01 = refl;
-  residency64 = refl;
+  residency64 = residency (read_mpidr64 (the mpidr)) (read_original_power_state (the power_state));
   residency64_01 = refl;
-  count32 = refl;
+  count32 = count (read_mpidr32 (the mpidr)) (read_original_power_state (the power_state));
   count32_01 = refl;
-  count64 = refl;
+  count64 = count (read_mpidr64 (the mpidr)) (read_original_power_state (the power_state));
   count64_01 = refl;
 }
 
@@ -86,6 +89,7 @@ pub two_formats : TwoFormats
 two_formats = record {
   the_word = the_word;
   six_rows = six_rows;
+  by_call = by_call;
   suspend = λ s old e. record { original = suspend_words write_original_power_state s e; extended = suspend_words write_power_state old e };
   residency = λ s old m. record { original = residency_words write_original_power_state s m; extended = residency_words write_power_state old m };
   count = λ s old m. record { original = count_words write_original_power_state s m; extended = count_words write_power_state old m };

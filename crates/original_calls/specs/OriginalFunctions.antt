@@ -3,9 +3,9 @@
 use Rattle.answers.specs.Answers.{Answer}
 use Rattle.function_ids.specs.declared.FunctionId.{FunctionId}
 use Rattle.words.specs.declared.original_power_states.OriginalPowerState.{OriginalPowerState}
-use Rattle.function.specs.Functions.{Function, function_id_of}
+use Rattle.function.specs.Functions.{function_id_of}
 use Rattle.function.specs.declared.Call.{Call}
-use Rattle.function.specs.States.{map_state}
+use Rattle.function.specs.Stateless.{StatelessFunction, among}
 
 abbrev pub OriginalFunction : Type 0
 OriginalFunction = Call OriginalPowerState
@@ -14,17 +14,6 @@ OriginalFunction = Call OriginalPowerState
 abbrev pub original_id_of : OriginalFunction → Answer FunctionId
 original_id_of f = function_id_of f
 
--- the 19 calls that have no power state: no value can stand in its place
-abbrev pub StatelessFunction : Type 0
-StatelessFunction = Call ⊥
-
--- they are among the calls of every format
-abbrev pub among : {S : Type 0} → StatelessFunction → Call S
-among g = map_state absurd g
-
--- among document 01's, and among those of the original format
-abbrev pub function_of : StatelessFunction → Function
-function_of g = among g
-
+-- a call that has no power state, among those of the original format
 abbrev pub original_of : StatelessFunction → OriginalFunction
 original_of g = among g

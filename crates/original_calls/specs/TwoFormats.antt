@@ -6,7 +6,7 @@ use Rattle.answers.specs.Answers.{Answer, accepted, refused, through}
 use Rattle.function_ids.specs.FunctionIds.{function_number}
 use Rattle.function_ids.specs.declared.FunctionId.{FunctionId}
 use Rattle.function_ids.specs.declared.FunctionId.TheVariants as id
-use Rattle.function_ids.specs.CallTable.{Kind, power_state, entry, context, mpidr, call_table, number_in}
+use Rattle.function_ids.specs.CallTable.{Kind, power_state, entry, context, mpidr, call_table, number_in, kept01}
 use Rattle.function_ids.specs.CallTableLaws.{numbers_with, NotAmong}
 use Rattle.words.specs.EntryPoints.{entry_address, entry_context}
 use Rattle.words.specs.Mpidrs.{read_mpidr32, read_mpidr64, write_mpidr64}
@@ -21,13 +21,14 @@ use Rattle.words.specs.declared.original_power_states.OriginalPowerState.{Origin
 use Rattle.function.specs.Forms.{in_form, entry_form, mpidr_form}
 use Rattle.function.specs.Functions.{Function}
 use Rattle.function.specs.States.{with_state}
+use Rattle.function.specs.Stateless.{StatelessFunction, function_of}
 use Rattle.function.specs.declared.Call.TheVariants.{CpuSuspend, StatResidency, StatCount}
 use Rattle.decode_definition.specs.RefusalOrders.{of_core_state}
 use Rattle.decode_definition.specs.Decode.{call_of, decode_of}
 use Rattle.encode_definition.specs.Encode.{with_number, words_of}
 use Rattle.roundtrip.specs.Codec.{Registers}
-use Rattle.original_calls.specs.OriginalFunctions.{OriginalFunction, StatelessFunction, function_of, original_of, original_id_of}
-use Rattle.original_calls.specs.OriginalCalls.{original_call_of, original_decode_of, original_words_of}
+use Rattle.original_calls.specs.OriginalFunctions.{OriginalFunction, original_of, original_id_of}
+use Rattle.original_calls.specs.OriginalCalls.{original_call_of, original_call_in, original_decode_of, original_words_of}
 
 -- 1. The word: its fields, what is refused when it is read, and what when it is written.
 pub record TheWord : Type 0 where
@@ -82,6 +83,8 @@ WithoutState number = NotAmong (numbers_with power_state call_table) number
 pub record TwoFormats : Type 0 where
   pub the_word : TheWord
   pub six_rows : (the : Kind → ℕ) → SixRows the
+  -- decoding is so in every row: a call of document 01's with 0 for the power state, which is then put in
+  pub by_call : (regs : List ℕ) → original_decode_of regs ≡ original_call_in (kept01 regs)
   pub suspend : (s : OriginalPowerState) (old : PowerState) (e : EntryPoint) →
       Alike (in_form (entry_form e) id.CpuSuspend32 id.CpuSuspend64) (before_entry e) (CpuSuspend s e) s (CpuSuspend old e) old
   pub residency : (s : OriginalPowerState) (old : PowerState) (m : Mpidr) →

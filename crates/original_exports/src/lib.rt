@@ -12,8 +12,7 @@ ghost use Rattle.original_exports.specs.OriginalAsked.{encode_original_words};
 
 use answers::told::Refusal;
 use call_exports::{decode_nine, encode_nine};
-use original_calls::OriginalFormat;
-use roundtrip::recode;
+use original_calls::{OriginalFormat, recode_original};
 
 // The nine words of the call that four registers make. Refused with decode's numbers, 1, 3 to 8 and 26; the lent words are then as they were.
 pub fn psci_decode_original(regs: &[u64; 4], out: &mut [u64; 9]) -> Refusal
@@ -35,5 +34,5 @@ pub fn psci_encode_original(call: &[u64; 9], out: &mut [u64; 4]) -> Refusal
 pub fn psci_recode_original(regs: &[u64; 4], out: &mut [u64; 4]) -> Refusal
     ensures writes { Writes refusal_in (recode_original regs.now out.old) out.old result out.new }
 {
-    Refusal::from(recode::<OriginalFormat>(*regs, out))
+    Refusal::from(recode_original(*regs, out))
 }
