@@ -20,7 +20,8 @@ use Rattle.original_calls.specs.OriginalFunctions.{OriginalFunction}
 abbrev pub original_decode_of : List ℕ → Answer OriginalFunction
 original_decode_of regs = decode_by read_original_power_state whole regs
 
--- The same by document 01's calls: each is decoded with 0 for the power state, which is then put in (`by_call` in TwoFormats.antt).
+-- ---- the same by document 01's calls: each with 0 for the power state, which is then put in (`by_call` in TwoFormats.antt)
+
 -- a call of document 01's with a power state as it was read: the call's refusal first
 abbrev pub in_state : Answer Function → Answer OriginalPowerState → Answer OriginalFunction
 in_state call state = and_then call (λ f. through (with_state f) state)
