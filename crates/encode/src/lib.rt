@@ -30,7 +30,8 @@ pub fn encode<S: StateFormat>(function: Call<S>, out: &mut [u64]) -> Result<(), 
         return Err(Error::WrongLength(length));
     }
     let function_id = function.function_id()?;
-    write(function_id, argument_words(function), out)
+    let number = number_of(function_id);
+    write_numbered(function_id, number, argument_words(function), out)
 }
 
 // Writes a function number and the arguments behind it. Refused in this order, and the run left as it was: a run not four numbers long with 17; then
@@ -43,19 +44,39 @@ pub fn write(
 ) -> Result<(), Error>
     ensures writes { Writes itself (written_of (accepted function_id) (arguments_answer arguments) out.old) out.old (encode_answer result out.new) out.new }
 {
+    write_numbered(function_id, number_of(function_id), arguments, out)
+}
+
+// The number of a function, as a word.
+fn number_of(function_id: FunctionId) -> u64
+    ensures { result ≡ function_number function_id }
+{
+    u64::from(u32::from(function_id))
+}
+
+// Writes as `write` does, by the function and its number. `encode` asks for the number in front of the arguments: LLVM then has it in each arm, and else
+// looks for it by a jump of its own behind them (docs/BENCHMARKS.md).
+fn write_numbered(
+    function_id: FunctionId,
+    number: u64,
+    arguments: Result<Arguments, Error>,
+    out: &mut [u64],
+) -> Result<(), Error>
+    requires { number ≡ function_number function_id }
+    ensures writes { Writes itself (written_of (accepted function_id) (arguments_answer arguments) out.old) out.old (encode_answer result out.new) out.new }
+{
     let length = out.len();
     if length != RUN {
         return Err(Error::WrongLength(length));
     }
-    store(words(function_id, arguments?), out);
+    store(words(number, arguments?), out);
     Ok(())
 }
 
-// The function number and the arguments, as one array.
-fn words(function_id: FunctionId, arguments: Arguments) -> [u64; 4]
-    ensures { result ≡ function_number function_id ∷ arguments.r1 ∷ arguments.r2 ∷ arguments.r3 ∷ [] }
+// A function number and the arguments, as one array.
+fn words(number: u64, arguments: Arguments) -> [u64; 4]
+    ensures { result ≡ number ∷ arguments.r1 ∷ arguments.r2 ∷ arguments.r3 ∷ [] }
 {
-    let number = u64::from(u32::from(function_id));
     let r1 = arguments.r1;
     let r2 = arguments.r2;
     let r3 = arguments.r3;

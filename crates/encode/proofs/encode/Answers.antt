@@ -21,4 +21,4 @@ pub returns : goal.returns
 unfolding words_by
 returns g c =
     let number = sym c.function_id.ensures ∙ ap answered c.in_ok-function_id.was in
-    record { writes = of_parts number (sym c.argument_words.ensures) c.write.ensures.writes }
+    record { writes = of_parts number (sym c.argument_words.ensures) c.write_numbered.ensures.writes }
