@@ -19,8 +19,10 @@ use words::{
 
 // The call that four registers make, its power state in the format asked for. Refused with 1 is a number that no function has, then what
 // docs/REFUSALS.md lists for the fields, level before MPIDR before power state; bits that no field has are ignored. Memory protect looks at all 64 bits of
-// r1. One match on the number, and each arm returns for itself: the answer is then written where the caller wants it, and not copied from arm to arm
-// (docs/BENCHMARKS.md).
+// r1. One match on the number, and each arm returns for itself: the answer is then written where the caller wants it, and not copied from arm to arm.
+// Always inlined, as are the functions of one line over it: the parts of a call then stay in registers until it is handed on, and no answer is written
+// down only to be copied (docs/BENCHMARKS.md).
+#[inline(always)]
 pub fn decode<S: StateFormat>(regs: [u64; 4]) -> Result<Call<S>, Error>
     ensures { answered result ≡ decode_by S.read whole regs }
 {
@@ -130,6 +132,7 @@ pub fn decode<S: StateFormat>(regs: [u64; 4]) -> Result<Call<S>, Error>
 
 // The call that four registers make, by the SMC Calling Convention (DEN0028): memory protect looks at the low 32 bits of r1. Every other number
 // has `decode`'s answer, refusals among them.
+#[inline(always)]
 pub fn decode_smccc(regs: [u64; 4]) -> Result<Function, Error>
     ensures { answered result ≡ decode_smccc regs }
 {

@@ -25,6 +25,7 @@ pub type OriginalFunction = Call<OriginalPowerState>;
 // refuses, with 26 in the place of 2: in residency and count a refused MPIDR comes first. It is document 01's call of the registers with 0 for the
 // power state, which is then put in.
 #[tactic(auto, using(crate::proofs::ByCalls::by_call))]
+#[inline(always)]
 pub fn decode_original(regs: [u64; 4]) -> Result<OriginalFunction, Error>
     ensures decodes { answered result ≡ original_decode_of regs }
     ensures by_call { answered result ≡ original_call_in (kept01 regs) }
@@ -53,6 +54,7 @@ impl Codec for OriginalFormat {
     ghost look = { look01 };
 
     #[tactic(auto, using(crate::proofs::Original::demand3_of_original))]
+    #[inline(always)]
     fn decode(regs: [u64; 4]) -> Result<OriginalFunction, Error> {
         decode_original(regs)
     }

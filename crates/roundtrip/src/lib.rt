@@ -55,6 +55,7 @@ impl<S: StateFormat> Codec for Format<S> {
 
     ghost look = { look01 };
 
+    #[inline(always)]
     fn decode(regs: [u64; 4]) -> Result<Call<S>, Error> {
         decode::decode(regs)
     }
@@ -80,6 +81,7 @@ impl Codec for Smccc {
     ghost look = { look_smccc };
 
     #[tactic(auto, using(crate::proofs::TwoCodecs::demand3_of_smccc))]
+    #[inline(always)]
     fn decode(regs: [u64; 4]) -> Result<Function, Error> {
         decode::decode_smccc(regs)
     }
